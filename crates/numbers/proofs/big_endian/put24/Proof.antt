@@ -1,0 +1,54 @@
+-- `big_endian::put24` meets its contract: its stores are the run of stores `sets`.
+use lib.ListN.{length-set}
+use native.Mathlib.Omega.{arith}
+use native.Mathlib.Numerals.{towards-suc}
+use borrow.Author.Needs.{needs}
+use Rattle.numbers.proofs.big_endian.put24.Statement.{statement}
+use Rattle.numbers.proofs.big_endian.put24.Tie as tie
+use Rattle.numbers.proofs.big_endian.put24.Reads as reads
+use Rattle.numbers.proofs.big_endian.put24.Lts as lts
+
+cast-out : tie.Need-cast-out
+cast-out c = search needs
+
+slice-write-out : tie.Need-slice-write-out
+slice-write-out c = search needs
+
+cast-out-2 : tie.Need-cast-out-2
+cast-out-2 c = search needs
+
+add-out : tie.Need-add-out
+add-out c = search needs
+
+slice-write-out-2 : tie.Need-slice-write-out-2
+slice-write-out-2 c = simp length-set (omega arith)
+
+cast-out-3 : tie.Need-cast-out-3
+cast-out-3 c = search needs
+
+add-out-2 : tie.Need-add-out-2
+add-out-2 c = search needs
+
+slice-write-out-3 : tie.Need-slice-write-out-3
+slice-write-out-3 c = simp length-set (omega arith)
+
+same-length : tie.Need-same-length
+same-length c = search needs
+
+returns : tie.Need-returns
+returns c = simp towards-suc
+
+pub put24-spec : {M : Type 1} → statement M
+put24-spec =
+    tie.close
+    (tie.spec
+    cast-out
+    slice-write-out
+    cast-out-2
+    add-out
+    slice-write-out-2
+    cast-out-3
+    add-out-2
+    slice-write-out-3
+    same-length
+    returns)

@@ -1,0 +1,4 @@
+pub mod BigEndian
+pub mod Buffer
+pub mod Checksum
+pub mod Search

@@ -1,0 +1,19 @@
+-- `walk::sighted` meets its contract: the test picks the case of `sighting`.
+use borrow.Author.Tests.{eq-eqb, ne-eqb}
+use borrow.Author.Needs.{needs}
+use Rattle.objects.proofs.walk.sighted.Statement.{statement}
+use Rattle.objects.proofs.walk.sighted.Tie as tie
+use Rattle.objects.proofs.walk.sighted.Reads as reads
+use Rattle.objects.proofs.walk.sighted.Lts as lts
+
+add-t5 : tie.Need-add-t5
+add-t5 c = search needs
+
+returns : tie.Need-returns
+returns c = simp (eq-eqb _ _ (c .before .if1 .taken))
+
+returns-2 : tie.Need-returns-2
+returns-2 c = simp (ne-eqb _ _ (c .if1 .left))
+
+pub sighted-spec : {M : Type 1} → statement M
+sighted-spec = tie.close (tie.spec add-t5 returns returns-2)

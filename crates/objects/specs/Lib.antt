@@ -1,0 +1,5 @@
+pub mod Faults
+pub mod Classes
+pub mod Forms
+pub mod Item
+pub mod Walk

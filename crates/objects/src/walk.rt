@@ -1,0 +1,109 @@
+// The walk over a message's objects from place 8, in one pass; the first faulty object ends it.
+ghost use mathlib.Core.Path.{_≡_};
+ghost use mathlib.Core.List.{[]};
+ghost use Prim.Native.Nat.{_<_};
+ghost use Rattle.objects.specs.Walk.{sighting, withObject, objectsOf, walkOf};
+use crate::fault::Fault;
+use crate::object::ADMIN_STATUS;
+use crate::object::ERROR_SPEC;
+use crate::object::Item;
+use crate::object::MESSAGE_ID;
+use crate::object::Object;
+use crate::object::SENDER_TEMPLATE;
+use crate::object::SESSION;
+use crate::object::SESSION_ATTRIBUTE;
+use crate::object::item_at;
+
+// Where the last object of a class stands, and how often one came. Place 0: none came.
+pub struct Seen {
+    pub at: usize,
+    pub times: usize,
+}
+
+// What the walk has seen of each class that is read, and how many object headers it read.
+pub struct Objects {
+    pub session: Seen,
+    pub error: Seen,
+    pub template: Seen,
+    pub identifier: Seen,
+    pub status: Seen,
+    pub attribute: Seen,
+    pub headers: usize,
+}
+
+pub enum Walked {
+    // The faulty object's place, and the headers read, its own included.
+    Stopped {
+        fault: Fault,
+        offset: usize,
+        headers: usize,
+    },
+    Whole(Objects),
+}
+
+// What is seen of a class after one more object. No count reaches the object's place, so each fits.
+fn sighted(before: Seen, class: u8, o: Object) -> Seen
+    requires { ⌜ before .times < o .at ⌝ }
+    ensures { λ r. ⌜ r ≡ sighting class o before ⌝ }
+{
+    if o.class == class {
+        return Seen {
+            at: o.at,
+            times: before.times + 1,
+        };
+    }
+    before
+}
+
+fn with_object(v: Objects, o: Object) -> Objects
+    requires { ⌜ (v .session .times < o .at) × (v .error .times < o .at) × (v .template .times < o .at) × (v .identifier .times < o .at) × (v .status .times < o .at) × (v .attribute .times < o .at) × (v .headers < o .at) ⌝ }
+    ensures { λ r. ⌜ r ≡ withObject o v ⌝ }
+{
+    Objects {
+        session: sighted(v.session, SESSION, o),
+        error: sighted(v.error, ERROR_SPEC, o),
+        template: sighted(v.template, SENDER_TEMPLATE, o),
+        identifier: sighted(v.identifier, MESSAGE_ID, o),
+        status: sighted(v.status, ADMIN_STATUS, o),
+        attribute: sighted(v.attribute, SESSION_ATTRIBUTE, o),
+        headers: v.headers + 1,
+    }
+}
+
+fn nothing_seen() -> Objects
+    ensures { λ r. ⌜ r ≡ objectsOf [] ⌝ }
+{
+    let none = Seen { at: 0, times: 0 };
+    Objects {
+        session: none,
+        error: none,
+        template: none,
+        identifier: none,
+        status: none,
+        attribute: none,
+        headers: 0,
+    }
+}
+
+pub fn walk(s: &[u8]) -> Walked
+    ensures { λ r. ⌜ r ≡ walkOf (now (s .entry)) ⌝ }
+{
+    let mut seen = nothing_seen();
+    let mut at = 8;
+    loop {
+        match item_at(s, at) {
+            Item::End => return Walked::Whole(seen),
+            Item::Faulty(fault) => {
+                return Walked::Stopped {
+                    fault,
+                    offset: at,
+                    headers: seen.headers + 1,
+                };
+            }
+            Item::Found(o) => {
+                seen = with_object(seen, o);
+                at += o.len;
+            }
+        }
+    }
+}
