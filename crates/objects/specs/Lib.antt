@@ -2,4 +2,6 @@ pub mod Faults
 pub mod Classes
 pub mod Forms
 pub mod Item
+pub mod Part
 pub mod Walk
+pub mod Placed

@@ -1,0 +1,155 @@
+-- What a message that was read promises of its parts: they lie within the message, with the sizes that a reply relies on.
+-- Assumes nothing.
+use Prim.Native.Nat.{ℕ, _+_, _≤_, _<_}
+use native.Mathlib.Omega.{arith}
+use mathlib.Core.Path.{_≡_, refl, sym, subst}
+use mathlib.Core.List.{List}
+use mathlib.Core.Bool.{Bool, true, false, cond, not, _||_}
+use lib.ListN.{length}
+use lib.Dec.{ltb, eqb}
+use borrow.Author.Tests.{eqb-false, ltb-false, not-false}
+use Rattle.objects.specs.Forms.{nameLength}
+use Rattle.objects.specs.Part.{Within}
+use Rattle.objects.specs.Placed.{Placed}
+use Rattle.objects.specs.Walk.{walkOf}
+use Rattle.objects.proofs.Placed.{walk-placed}
+use Rattle.objects.specs.declared.fault.Fault.{Fault}
+use Rattle.objects.specs.declared.walk.Objects.{Objects}
+use Rattle.objects.specs.declared.walk.Walked.{Walked}
+use Rattle.objects.specs.declared.walk.Walked.the-variants.{Stopped, Whole}
+use Rattle.messages.specs.declared.header.Kind.{Kind}
+use Rattle.messages.specs.declared.header.Kind.the-variants.{Path, PathTear, Notify}
+use Rattle.messages.specs.declared.header.Header.{Header}
+use Rattle.messages.specs.declared.header.Header.the-variants.{Bad, Good}
+use Rattle.messages.specs.declared.message.CallRequest.{CallRequest}
+use Rattle.messages.specs.declared.message.Connection.{Connection}
+use Rattle.messages.specs.declared.message.Message.{Message}
+use Rattle.messages.specs.declared.message.Message.the-variants.{Open, Close, Add, Drop}
+use Rattle.messages.specs.declared.read.Reading.{Reading}
+use Rattle.messages.specs.declared.read.Reading.the-variants.{Refused, Unfit, Read}
+use Rattle.messages.specs.Header.{headerOf}
+use Rattle.messages.specs.Status.{bitSet, deleteBit}
+use Rattle.messages.specs.Counts.{notifyComplete, pathComplete}
+use Rattle.messages.specs.Fields.{callAt, connectionAt, requestAt}
+use Rattle.messages.specs.Read.{statusAt, isCallRequest, badIdentity, notifyOf, pathOf, objectsRead, walkedRead, headerRead, readOf}
+use Rattle.messages.proofs.Bounds.{path-bounds, notify-bounds}
+
+pub record CallInside (s : List ℕ) (r : CallRequest) : Type 0 where
+  pub session : Within s (r .session)
+  pub template : Within s (r .template)
+  pub attribute : Within s (r .attribute)
+  pub name : Within s (r .name)
+  pub sessionSize : r .session .size ≡ 16
+  pub templateSize : r .template .size ≡ 12
+  pub attributeSize : r .attribute .size ≤ 40
+  pub nameSome : 0 < r .name .size
+  pub nameMost : r .name .size ≤ 32
+  pub callSome : 0 < r .call .0
+
+pub record ConnectionInside (s : List ℕ) (c : Connection) : Type 0 where
+  pub session : Within s (c .session)
+  pub template : Within s (c .template)
+  pub sessionSize : c .session .size ≡ 16
+  pub templateSize : c .template .size ≡ 12
+
+abbrev pub Inside : List ℕ → Message → Type 0
+Inside s (Open r) = CallInside s r
+Inside s (Close r) = CallInside s r
+Inside s (Add c) = ConnectionInside s c
+Inside s (Drop c) = ConnectionInside s c
+
+-- the promise of a reading: none where nothing was read
+Promised : List ℕ → Reading → Type 0
+Promised s (Refused fault offset headers) = Unit {0}
+Promised s (Unfit fault sender headers) = Unit {0}
+Promised s (Read message headers) = Inside s message
+
+good-identity : (s : List ℕ) (session attribute : ℕ) → badIdentity s session attribute ≡ false
+    → (0 < callAt s session) × (0 < nameLength s attribute) × (nameLength s attribute ≤ 32)
+unfolding badIdentity
+good-identity s session attribute e = by (eqb (callAt s session) 0) (eqb (nameLength s attribute) 0) (ltb 32 (nameLength s attribute)) refl refl refl e
+  where
+    by : (a b d : Bool) → eqb (callAt s session) 0 ≡ a → eqb (nameLength s attribute) 0 ≡ b → ltb 32 (nameLength s attribute) ≡ d → (a || b || d) ≡ false
+        → (0 < callAt s session) × (0 < nameLength s attribute) × (nameLength s attribute ≤ 32)
+    by true b d p q r e = let z : _≡_ {A = ℕ} 0 1 = cc in absurd (omega arith)
+    by false true d p q r e = let z : _≡_ {A = ℕ} 0 1 = cc in absurd (omega arith)
+    by false false true p q r e = let z : _≡_ {A = ℕ} 0 1 = cc in absurd (omega arith)
+    by false false false p q r e =
+        let x : callAt s session ≡ 0 → ⊥ = eqb-false _ _ p in
+        let y : nameLength s attribute ≡ 0 → ⊥ = eqb-false _ _ q in
+        (omega arith, omega arith, ltb-false _ _ r)
+
+module _ (s : List ℕ) where
+  refused : (fault : Fault) (offset headers : ℕ) → Promised s (Refused fault offset headers)
+  unfolding Promised
+  refused fault offset headers = tt
+
+  unfit : (fault : Fault) (sender headers : ℕ) → Promised s (Unfit fault sender headers)
+  unfolding Promised
+  unfit fault sender headers = tt
+
+  as-read : (message : Message) (headers : ℕ) → Inside s message → Promised s (Read message headers)
+  unfolding Promised
+  as-read message headers h = h
+
+  either : (b : Bool) (x y : Reading) → (b ≡ true → Promised s x) → (b ≡ false → Promised s y) → Promised s (cond b x y)
+  either true x y f g = f refl
+  either false x y f g = g refl
+
+  request : (v : Objects) → Placed s v → notifyComplete v ≡ true → badIdentity s (v .session .at) (v .attribute .at) ≡ false
+      → CallInside s (requestAt s (v .session .at) (v .template .at) (v .identifier .at) (v .attribute .at))
+  unfolding requestAt
+  request v g e i =
+      let b = notify-bounds s v e g in
+      let k = good-identity s (v .session .at) (v .attribute .at) i in
+      record {
+        session = b .session;
+        template = b .template;
+        attribute = b .attribute;
+        name = omega (arith, b .attribute, b .attributeSize);
+        sessionSize = refl;
+        templateSize = refl;
+        attributeSize = omega (arith, b .attributeSize, k);
+        nameSome = k .1;
+        nameMost = k .2;
+        callSome = k .0;
+      }
+
+  notify : (v : Objects) → Placed s v → Promised s (notifyOf s v)
+  unfolding notifyOf
+  notify v g =
+      either (not (notifyComplete v)) _ _ (λ _. refused _ _ _) (λ e.
+      either (not (isCallRequest s (v .status .at) (v .error .at))) _ _ (λ _. unfit _ _ _) (λ _.
+      either (badIdentity s (v .session .at) (v .attribute .at)) _ _ (λ _. unfit _ _ _) (λ i.
+      either (bitSet deleteBit (statusAt s (v .status .at))) _ _ (λ _. as-read _ _ (request v g (not-false _ e) i)) (λ _. as-read _ _ (request v g (not-false _ e) i)))))
+
+  connection : (v : Objects) → Placed s v → pathComplete v ≡ true → ConnectionInside s (connectionAt s (v .session .at) (v .template .at))
+  unfolding connectionAt
+  connection v g e =
+      let b = path-bounds s v e g in
+      record { session = b .0; template = b .1; sessionSize = refl; templateSize = refl }
+
+  path : (v : Objects) (adds : Bool) → Placed s v → Promised s (pathOf s v adds)
+  unfolding pathOf
+  path v adds g = either (not (pathComplete v)) _ _ (λ _. refused _ _ _) (λ e. either adds _ _ (λ _. as-read _ _ (connection v g (not-false _ e))) (λ _. as-read _ _ (connection v g (not-false _ e))))
+
+  by-kind : (kind : Kind) (v : Objects) → Placed s v → Promised s (objectsRead s kind v)
+  by-kind Path v g = path v true g
+  by-kind PathTear v g = path v false g
+  by-kind Notify v g = notify v g
+
+  by-walk : (kind : Kind) (w : Walked) → walkOf s ≡ w → Promised s (walkedRead s kind w)
+  by-walk kind (Stopped fault offset headers) e = refused _ _ _
+  by-walk kind (Whole v) e = by-kind kind v (walk-placed s v e)
+
+  by-header : (h : Header) → Promised s (headerRead s h)
+  by-header (Bad fault) = refused _ _ _
+  by-header (Good kind) = by-walk kind (walkOf s) refl
+
+  promised : Promised s (readOf s)
+  unfolding readOf
+  promised = by-header (headerOf s)
+
+  pub read-inside : (message : Message) (headers : ℕ) → readOf s ≡ Read message headers → Inside s message
+  unfolding Promised
+  read-inside message headers e = subst (Promised s) e promised

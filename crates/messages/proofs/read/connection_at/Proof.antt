@@ -1,0 +1,68 @@
+-- `read::connection_at` meets its contract: each field is the number that was read.
+use Rattle.messages.specs.Fields.{connectionAt}
+use borrow.Author.Needs.{needs}
+use Rattle.messages.proofs.read.connection_at.Statement.{statement}
+use Rattle.messages.proofs.read.connection_at.Tie as tie
+use Rattle.messages.proofs.read.connection_at.Reads as reads
+use Rattle.messages.proofs.read.connection_at.Lts as lts
+use Rattle.numbers.proofs.big_endian.get16.Reads as get16-reads
+use Rattle.numbers.proofs.big_endian.get32.Reads as get32-reads
+
+add-get32 : tie.Need-add-get32
+add-get32 c = search needs
+
+get32-requires : tie.Need-get32-requires
+get32-requires c κs = search needs
+
+add-get32-2 : tie.Need-add-get32-2
+add-get32-2 c = search needs
+
+get32-requires-2 : tie.Need-get32-requires-2
+get32-requires-2 c κs = search needs
+
+add-get16 : tie.Need-add-get16
+add-get16 c = search needs
+
+get16-requires : tie.Need-get16-requires
+get16-requires c κs = search needs
+
+add-get16-2 : tie.Need-add-get16-2
+add-get16-2 c = search needs
+
+get16-requires-2 : tie.Need-get16-requires-2
+get16-requires-2 c κs = search needs
+
+add-get32-3 : tie.Need-add-get32-3
+add-get32-3 c = search needs
+
+get32-requires-3 : tie.Need-get32-requires-3
+get32-requires-3 c κs = search needs
+
+add-get16-3 : tie.Need-add-get16-3
+add-get16-3 c = search needs
+
+get16-requires-3 : tie.Need-get16-requires-3
+get16-requires-3 c κs = search needs
+
+returns : tie.Need-returns
+unfolding connectionAt
+returns c =
+    simp (c .before .before .before .before .before .get32 .ensures, c .before .before .before .before .get322 .ensures, c .before .before .before .get16 .ensures, c .before .before .get162 .ensures, c .before .get323 .ensures, c .get163 .ensures)
+
+pub connection-at-spec : {M : Type 1} → statement M
+connection-at-spec =
+    tie.close
+    (tie.spec
+    add-get32
+    get32-requires
+    add-get32-2
+    get32-requires-2
+    add-get16
+    get16-requires
+    add-get16-2
+    get16-requires-2
+    add-get32-3
+    get32-requires-3
+    add-get16-3
+    get16-requires-3
+    returns)

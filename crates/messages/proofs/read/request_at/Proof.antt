@@ -1,0 +1,86 @@
+-- `read::request_at` meets its contract: each field is the number that was read.
+use Rattle.messages.specs.Fields.{requestAt}
+use borrow.Author.Needs.{needs}
+use Rattle.messages.proofs.read.request_at.Statement.{statement}
+use Rattle.messages.proofs.read.request_at.Tie as tie
+use Rattle.messages.proofs.read.request_at.Reads as reads
+use Rattle.messages.proofs.read.request_at.Lts as lts
+use Rattle.messages.proofs.read.widened.Reads as widened-reads
+use Rattle.numbers.proofs.big_endian.get16.Reads as get16-reads
+use Rattle.numbers.proofs.big_endian.get24.Reads as get24-reads
+use Rattle.numbers.proofs.big_endian.get32.Reads as get32-reads
+
+add-get32 : tie.Need-add-get32
+add-get32 c = search needs
+
+get32-requires : tie.Need-get32-requires
+get32-requires c κs = search needs
+
+add-get32-2 : tie.Need-add-get32-2
+add-get32-2 c = search needs
+
+get32-requires-2 : tie.Need-get32-requires-2
+get32-requires-2 c κs = search needs
+
+add-get16 : tie.Need-add-get16
+add-get16 c = search needs
+
+get16-requires : tie.Need-get16-requires
+get16-requires c κs = search needs
+
+add-t13 : tie.Need-add-t13
+add-t13 c = search needs
+
+add-widened : tie.Need-add-widened
+add-widened c = search needs
+
+shared-slice-read-widened : tie.Need-shared-slice-read-widened
+shared-slice-read-widened c = search needs
+
+widened-requires : tie.Need-widened-requires
+widened-requires c κs = search needs
+
+add-get24 : tie.Need-add-get24
+add-get24 c = search needs
+
+get24-requires : tie.Need-get24-requires
+get24-requires c κs = search needs
+
+add-get32-3 : tie.Need-add-get32-3
+add-get32-3 c = search needs
+
+get32-requires-3 : tie.Need-get32-requires-3
+get32-requires-3 c κs = search needs
+
+get16-requires-2 : tie.Need-get16-requires-2
+get16-requires-2 c κs = search needs
+
+cast-t26 : tie.Need-cast-t26
+cast-t26 c = search needs
+
+returns : tie.Need-returns
+unfolding requestAt
+returns c =
+    simp (c .before .before .before .before .before .before .before .get32 .ensures, c .before .before .before .before .before .before .get322 .ensures, c .before .before .before .before .before .get16 .ensures, c .before .before .before .widened .ensures, c .before .before .get24 .ensures, c .before .get323 .ensures, c .get162 .ensures)
+
+pub request-at-spec : {M : Type 1} → statement M
+request-at-spec =
+    tie.close
+    (tie.spec
+    add-get32
+    get32-requires
+    add-get32-2
+    get32-requires-2
+    add-get16
+    get16-requires
+    add-t13
+    add-widened
+    shared-slice-read-widened
+    widened-requires
+    add-get24
+    get24-requires
+    add-get32-3
+    get32-requires-3
+    get16-requires-2
+    cast-t26
+    returns)

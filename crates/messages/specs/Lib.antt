@@ -1,0 +1,5 @@
+pub mod Header
+pub mod Status
+pub mod Counts
+pub mod Fields
+pub mod Read
