@@ -6,11 +6,11 @@ use mathlib.Core.Path.{_≡_, refl}
 use mathlib.Core.List.{List}
 use mathlib.Core.Bool.{Bool, true, false, not, _&&_, _||_}
 use lib.ListN.{length}
-use lib.Dec.{ltb, leb, eqb}
+use lib.Dec.{ltb, eqb}
 use borrow.Author.Tests.{eqb-true, ltb-false}
 use Rattle.numbers.specs.BigEndian.{be16At}
 use Rattle.objects.specs.Forms.{nameLength, roundedUpTo4}
-use Rattle.objects.specs.Placed.{Reaches, NameReaches, Placed}
+use Rattle.objects.specs.Placed.{Placed}
 use Rattle.objects.specs.declared.walk.Seen.{Seen}
 use Rattle.objects.specs.declared.walk.Objects.{Objects}
 use Rattle.messages.specs.Header.{badMessageLength}

@@ -1,5 +1,4 @@
 -- How often each object has to come (01, Message layout, the paragraph behind the table; answer 10).
-use Prim.Native.Nat.{ℕ}
 use mathlib.Core.Bool.{Bool, _&&_}
 use lib.Dec.{leb, eqb}
 use Rattle.objects.specs.declared.walk.Seen.{Seen}

@@ -3,11 +3,6 @@ use Prim.Native.Nat.{ℕ, _+_}
 use mathlib.Core.List.{List}
 use Rattle.numbers.specs.BigEndian.{be16At, be24At, be32At}
 use Rattle.objects.specs.Forms.{nameLength}
-use Rattle.objects.specs.declared.fields.CallId.{CallId}
-use Rattle.objects.specs.declared.fields.TunnelId.{TunnelId}
-use Rattle.objects.specs.declared.fields.LspId.{LspId}
-use Rattle.objects.specs.declared.fields.MessageId.{MessageId}
-use Rattle.objects.specs.declared.fields.Part.{Part}
 use Rattle.messages.specs.declared.message.CallRequest.{CallRequest}
 use Rattle.messages.specs.declared.message.Connection.{Connection}
 

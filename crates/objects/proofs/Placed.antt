@@ -16,10 +16,10 @@ use Rattle.objects.specs.declared.object.Item.the-variants.{End, Faulty,
 use Rattle.objects.specs.declared.walk.Seen.{Seen}
 use Rattle.objects.specs.declared.walk.Objects.{Objects}
 use Rattle.objects.specs.declared.walk.Walked.{Walked}
-use Rattle.objects.specs.declared.walk.Walked.the-variants.{Stopped, Whole}
+use Rattle.objects.specs.declared.walk.Walked.the-variants.{Whole}
 use Rattle.objects.specs.Classes.{session, errorSpec, senderTemplate, messageId, adminStatus, sessionAttribute, passedOver}
 use Rattle.objects.specs.Forms.{hasForm, nameLength, roundedUpTo4, attributeFormed, formed, misformed}
-use Rattle.objects.specs.Item.{objectAt, itemAt}
+use Rattle.objects.specs.Item.{itemAt}
 use Rattle.objects.specs.Walk.{seen, objectsOf, onItem, walkFrom, walkOf}
 use Rattle.objects.specs.Placed.{Reaches, NameReaches, Placed}
 use Rattle.objects.proofs.Steps.{found-at}

@@ -1,9 +1,9 @@
 -- What `itemAt` says of an object that it finds, and what the walk does at an end, a fault and an object.
 -- Assumes nothing.
-use Prim.Native.Nat.{ℕ, zero, suc, _+_, _-_, _*_, _%_, _≤_, _<_}
+use Prim.Native.Nat.{ℕ, zero, suc, _+_, _-_, _%_, _≤_, _<_}
 use native.Mathlib.Omega.{arith}
 use native.Mathlib.Numerals.{add-one}
-use mathlib.Core.Path.{_≡_, refl, sym, ap, _∙_}
+use mathlib.Core.Path.{_≡_, refl, ap}
 use mathlib.Core.List.{List, [], _∷_}
 use mathlib.Core.Bool.{Bool, true, false, cond, not, _||_}
 use lib.ListN.{length, getD}
@@ -13,7 +13,6 @@ use Rattle.numbers.specs.BigEndian.{be16At}
 use Rattle.objects.specs.declared.fault.Fault.{Fault}
 use Rattle.objects.specs.declared.fault.Fault.the-variants.{ObjectLength, ObjectClass, ObjectForm}
 use Rattle.objects.specs.declared.object.Object.{Object}
-use Rattle.objects.specs.declared.object.Item.{Item}
 use Rattle.objects.specs.declared.object.Item.the-variants.{End, Faulty, Found}
 use Rattle.objects.specs.declared.walk.Walked.the-variants.{Stopped, Whole}
 use Rattle.objects.specs.Classes.{session, errorSpec, senderTemplate, messageId, adminStatus, sessionAttribute, refusedClass}

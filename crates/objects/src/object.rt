@@ -41,7 +41,14 @@ pub enum Item {
     Found(Object),
 }
 
-const READ: [u8; 6] = [1, 6, 11, 23, 196, 207];
+const READ: [u8; 6] = [
+    SESSION,
+    ERROR_SPEC,
+    SENDER_TEMPLATE,
+    MESSAGE_ID,
+    ADMIN_STATUS,
+    SESSION_ATTRIBUTE,
+];
 
 const SKIPPED: [u8; 16] = [0, 3, 4, 5, 12, 13, 14, 19, 20, 21, 24, 34, 35, 36, 37, 133];
 

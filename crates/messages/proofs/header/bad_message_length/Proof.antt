@@ -1,12 +1,9 @@
 -- `header::bad_message_length` meets its contract: the length field is read only where there is a header.
-use Rattle.messages.specs.Header.{badMessageLength}
 use borrow.Author.Tests.{lt-ltb, le-ltb}
 use borrow.Author.Needs.{needs}
+use Rattle.messages.specs.Header.{badMessageLength}
 use Rattle.messages.proofs.header.bad_message_length.Statement.{statement}
 use Rattle.messages.proofs.header.bad_message_length.Tie as tie
-use Rattle.messages.proofs.header.bad_message_length.Reads as reads
-use Rattle.messages.proofs.header.bad_message_length.Lts as lts
-use Rattle.numbers.proofs.big_endian.get16.Reads as get16-reads
 
 returns : tie.Need-returns
 unfolding badMessageLength

@@ -1,13 +1,9 @@
 -- `header::checksum_holds` meets its contract: the sum is taken only where a checksum was sent.
-use Rattle.messages.specs.Header.{checksumHolds}
 use borrow.Author.Tests.{eq-eqb, ne-eqb}
 use borrow.Author.Needs.{needs}
+use Rattle.messages.specs.Header.{checksumHolds}
 use Rattle.messages.proofs.header.checksum_holds.Statement.{statement}
 use Rattle.messages.proofs.header.checksum_holds.Tie as tie
-use Rattle.messages.proofs.header.checksum_holds.Reads as reads
-use Rattle.messages.proofs.header.checksum_holds.Lts as lts
-use Rattle.numbers.proofs.big_endian.get16.Reads as get16-reads
-use Rattle.numbers.proofs.checksum.words_sum.Reads as words-sum-reads
 
 get16-requires : tie.Need-get16-requires
 get16-requires c κs = search needs

@@ -1,11 +1,8 @@
 -- `header::kind_of` meets its contract: at each return the tests passed say which type it is.
 use borrow.Author.Tests.{eq-eqb, ne-eqb}
 use Rattle.messages.specs.Header.{kindOf}
-use borrow.Author.Needs.{needs}
 use Rattle.messages.proofs.header.kind_of.Statement.{statement}
 use Rattle.messages.proofs.header.kind_of.Tie as tie
-use Rattle.messages.proofs.header.kind_of.Reads as reads
-use Rattle.messages.proofs.header.kind_of.Lts as lts
 
 returns : tie.Need-returns
 unfolding kindOf

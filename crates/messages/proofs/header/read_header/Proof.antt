@@ -1,17 +1,12 @@
 -- `header::read_header` meets its contract: at each return the tests passed say which case of `headerOf` it is.
-use Rattle.messages.proofs.Bounds.{good-length}
-use Rattle.messages.specs.Header.{headerOf}
-use borrow.Author.Tests.{eq-eqb, ne-eqb, not-true, not-false}
 use native.Mathlib.Omega.{arith}
 use mathlib.Core.Path.{sym, _∙_}
+use borrow.Author.Tests.{eq-eqb, ne-eqb, not-true, not-false}
 use borrow.Author.Needs.{needs}
+use Rattle.messages.specs.Header.{headerOf}
+use Rattle.messages.proofs.Bounds.{good-length}
 use Rattle.messages.proofs.header.read_header.Statement.{statement}
 use Rattle.messages.proofs.header.read_header.Tie as tie
-use Rattle.messages.proofs.header.read_header.Reads as reads
-use Rattle.messages.proofs.header.read_header.Lts as lts
-use Rattle.messages.proofs.header.bad_message_length.Reads as bad-message-length-reads
-use Rattle.messages.proofs.header.checksum_holds.Reads as checksum-holds-reads
-use Rattle.messages.proofs.header.kind_of.Reads as kind-of-reads
 
 bad-message-length-requires : tie.Need-bad-message-length-requires
 bad-message-length-requires c κs = search needs

@@ -1,11 +1,8 @@
 -- `read::bad_identity` meets its contract: what was read is what the definition tests.
-use Rattle.messages.specs.Read.{badIdentity}
 use borrow.Author.Needs.{needs}
+use Rattle.messages.specs.Read.{badIdentity}
 use Rattle.messages.proofs.read.bad_identity.Statement.{statement}
 use Rattle.messages.proofs.read.bad_identity.Tie as tie
-use Rattle.messages.proofs.read.bad_identity.Reads as reads
-use Rattle.messages.proofs.read.bad_identity.Lts as lts
-use Rattle.numbers.proofs.big_endian.get16.Reads as get16-reads
 
 add-get16 : tie.Need-add-get16
 add-get16 c = search needs

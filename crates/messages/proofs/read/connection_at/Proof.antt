@@ -1,12 +1,8 @@
 -- `read::connection_at` meets its contract: each field is the number that was read.
-use Rattle.messages.specs.Fields.{connectionAt}
 use borrow.Author.Needs.{needs}
+use Rattle.messages.specs.Fields.{connectionAt}
 use Rattle.messages.proofs.read.connection_at.Statement.{statement}
 use Rattle.messages.proofs.read.connection_at.Tie as tie
-use Rattle.messages.proofs.read.connection_at.Reads as reads
-use Rattle.messages.proofs.read.connection_at.Lts as lts
-use Rattle.numbers.proofs.big_endian.get16.Reads as get16-reads
-use Rattle.numbers.proofs.big_endian.get32.Reads as get32-reads
 
 add-get32 : tie.Need-add-get32
 add-get32 c = search needs

@@ -1,13 +1,8 @@
 -- `read::is_call_request` meets its contract: what was read is what the definition tests.
-use Rattle.messages.specs.Read.{isCallRequest}
 use borrow.Author.Needs.{needs}
+use Rattle.messages.specs.Read.{isCallRequest}
 use Rattle.messages.proofs.read.is_call_request.Statement.{statement}
 use Rattle.messages.proofs.read.is_call_request.Tie as tie
-use Rattle.messages.proofs.read.is_call_request.Reads as reads
-use Rattle.messages.proofs.read.is_call_request.Lts as lts
-use Rattle.messages.proofs.status.bit_set.Reads as bit-set-reads
-use Rattle.numbers.proofs.big_endian.get16.Reads as get16-reads
-use Rattle.numbers.proofs.big_endian.get32.Reads as get32-reads
 
 add-get32 : tie.Need-add-get32
 add-get32 c = search needs

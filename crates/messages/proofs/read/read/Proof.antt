@@ -1,15 +1,10 @@
 -- `read::read` meets its contract: each arm is its case of `readOf`, and the walk promises the places of what it has seen.
-use Rattle.messages.specs.Read.{walkedRead, headerRead, readOf}
-use Rattle.objects.proofs.Placed.{walk-placed}
 use mathlib.Core.Path.{sym, ap, _∙_}
 use borrow.Author.Needs.{needs}
+use Rattle.objects.proofs.Placed.{walk-placed}
+use Rattle.messages.specs.Read.{walkedRead, headerRead, readOf}
 use Rattle.messages.proofs.read.read.Statement.{statement}
 use Rattle.messages.proofs.read.read.Tie as tie
-use Rattle.messages.proofs.read.read.Reads as reads
-use Rattle.messages.proofs.read.read.Lts as lts
-use Rattle.messages.proofs.header.read_header.Reads as read-header-reads
-use Rattle.messages.proofs.read.read_objects.Reads as read-objects-reads
-use Rattle.objects.proofs.walk.walk.Reads as walk-reads
 
 read-header-requires : tie.Need-read-header-requires
 read-header-requires c κs = search needs

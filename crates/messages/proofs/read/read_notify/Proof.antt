@@ -1,22 +1,15 @@
-use Rattle.messages.specs.Status.{bitSet, deleteBit}
--- `read::read_notify` meets its contract: at each return the tests passed say which case of `notifyOf` it is, and complete objects
--- lie within the message.
-use Rattle.messages.proofs.Bounds.{notify-bounds}
-use Rattle.messages.specs.Read.{notifyOf}
-use borrow.Author.Tests.{not-true, not-false}
 use native.Mathlib.Omega.{arith}
 use mathlib.Core.Path.{sym, _∙_, ap}
+use borrow.Author.Tests.{not-true, not-false}
 use borrow.Author.Needs.{needs}
+use Rattle.messages.specs.Status.{bitSet, deleteBit}
+use Rattle.messages.specs.Read.{notifyOf}
+use Rattle.messages.proofs.Bounds.{notify-bounds}
 use Rattle.messages.proofs.read.read_notify.Statement.{statement}
 use Rattle.messages.proofs.read.read_notify.Tie as tie
-use Rattle.messages.proofs.read.read_notify.Reads as reads
-use Rattle.messages.proofs.read.read_notify.Lts as lts
-use Rattle.messages.proofs.read.bad_identity.Reads as bad-identity-reads
-use Rattle.messages.proofs.read.is_call_request.Reads as is-call-request-reads
-use Rattle.messages.proofs.read.notify_complete.Reads as notify-complete-reads
-use Rattle.messages.proofs.read.request_at.Reads as request-at-reads
-use Rattle.messages.proofs.status.bit_set.Reads as bit-set-reads
-use Rattle.numbers.proofs.big_endian.get32.Reads as get32-reads
+
+-- `read::read_notify` meets its contract: at each return the tests passed say which case of `notifyOf` it is, and complete objects
+-- lie within the message.
 
 notify-complete-requires : tie.Need-notify-complete-requires
 notify-complete-requires c κs = search needs

@@ -1,14 +1,7 @@
 -- `read::read_objects` meets its contract: each arm is its case of `objectsRead`.
-use Rattle.messages.specs.Read.{objectsRead}
-use Rattle.messages.specs.declared.header.Kind.{Kind}
-use mathlib.Core.Path.{sym, ap, _∙_}
 use borrow.Author.Needs.{needs}
 use Rattle.messages.proofs.read.read_objects.Statement.{statement}
 use Rattle.messages.proofs.read.read_objects.Tie as tie
-use Rattle.messages.proofs.read.read_objects.Reads as reads
-use Rattle.messages.proofs.read.read_objects.Lts as lts
-use Rattle.messages.proofs.read.read_notify.Reads as read-notify-reads
-use Rattle.messages.proofs.read.read_path.Reads as read-path-reads
 
 enum-told : tie.Need-enum-told
 enum-told c = search needs

@@ -1,15 +1,11 @@
 -- `read::read_path` meets its contract: at each return the tests passed say which case of `pathOf` it is.
-use Rattle.messages.proofs.Bounds.{path-bounds}
-use Rattle.messages.specs.Read.{pathOf}
-use borrow.Author.Tests.{not-true, not-false}
 use mathlib.Core.Path.{sym, _∙_}
+use borrow.Author.Tests.{not-true, not-false}
 use borrow.Author.Needs.{needs}
+use Rattle.messages.specs.Read.{pathOf}
+use Rattle.messages.proofs.Bounds.{path-bounds}
 use Rattle.messages.proofs.read.read_path.Statement.{statement}
 use Rattle.messages.proofs.read.read_path.Tie as tie
-use Rattle.messages.proofs.read.read_path.Reads as reads
-use Rattle.messages.proofs.read.read_path.Lts as lts
-use Rattle.messages.proofs.read.connection_at.Reads as connection-at-reads
-use Rattle.messages.proofs.read.path_complete.Reads as path-complete-reads
 
 path-complete-requires : tie.Need-path-complete-requires
 path-complete-requires c κs = search needs

@@ -3,8 +3,6 @@ use native.Mathlib.Numerals.{towards-suc}
 use borrow.Author.Needs.{needs}
 use Rattle.numbers.proofs.big_endian.put16.Statement.{statement}
 use Rattle.numbers.proofs.big_endian.put16.Tie as tie
-use Rattle.numbers.proofs.big_endian.put16.Reads as reads
-use Rattle.numbers.proofs.big_endian.put16.Lts as lts
 
 cast-out : tie.Need-cast-out
 cast-out c = search needs

@@ -1,12 +1,10 @@
 -- `big_endian::put32` meets its contract: its stores are the run of stores `sets`.
-use lib.ListN.{length-set}
 use native.Mathlib.Omega.{arith}
 use native.Mathlib.Numerals.{towards-suc}
+use lib.ListN.{length-set}
 use borrow.Author.Needs.{needs}
 use Rattle.numbers.proofs.big_endian.put32.Statement.{statement}
 use Rattle.numbers.proofs.big_endian.put32.Tie as tie
-use Rattle.numbers.proofs.big_endian.put32.Reads as reads
-use Rattle.numbers.proofs.big_endian.put32.Lts as lts
 
 cast-out : tie.Need-cast-out
 cast-out c = search needs

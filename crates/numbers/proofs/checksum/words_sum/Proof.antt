@@ -1,18 +1,14 @@
 -- `checksum::words_sum` meets its contract: the loop holds the sum of the words passed, at most 65,535 a word, and two rounds of carries follow.
-use Rattle.numbers.specs.Checksum.{firstWords, allRound, wordsSum}
-use denote.Ref.{now}
-use lib.ListN.{length}
-use mathlib.Core.Path.{_≡_, refl, ap, _∙_}
 use Prim.Native.Nat.{_≤_, _*_, _-_, _/_}
 use native.Mathlib.Numerals.{add-one}
 use native.Mathlib.Omega.{arith}
+use mathlib.Core.Path.{_≡_, refl, ap, _∙_}
+use lib.ListN.{length}
+use denote.Ref.{now}
 use borrow.Author.Needs.{needs}
+use Rattle.numbers.specs.Checksum.{firstWords, allRound, wordsSum}
 use Rattle.numbers.proofs.checksum.words_sum.Statement.{statement}
 use Rattle.numbers.proofs.checksum.words_sum.Tie as tie
-use Rattle.numbers.proofs.checksum.words_sum.Reads as reads
-use Rattle.numbers.proofs.checksum.words_sum.Lts as lts
-use Rattle.numbers.proofs.big_endian.get16.Reads as get16-reads
-use Rattle.numbers.proofs.checksum.widened.Reads as widened-reads
 
 abbrev Inv-loop : tie.InvT-loop
 Inv-loop s words sum₀ k₀ sum k = (k ≤ words) × (sum ≡ firstWords s k) × (sum ≤ 65535 * k)

@@ -1,19 +1,17 @@
 -- `search::contains` meets its contract: what is left to search answers as the whole list does.
-use Rattle.numbers.specs.Search.{isIn}
-use lib.Seq.{drop-cons}
-use lib.ListN.{length, getD, drop, drop-of-length-le}
-use mathlib.Core.Bool.{true}
-use mathlib.Core.List.{List}
-use mathlib.Core.Path.{_≡_, refl, sym, ap, _∙_}
 use Prim.Native.Nat.{ℕ, suc, _≤_, _<_, _-_}
 use native.Mathlib.Numerals.{add-one}
 use native.Mathlib.Omega.{arith}
+use mathlib.Core.Bool.{true}
+use mathlib.Core.List.{List}
+use mathlib.Core.Path.{_≡_, refl, sym, ap, _∙_}
+use lib.Seq.{drop-cons}
+use lib.ListN.{length, getD, drop, drop-of-length-le}
 use borrow.Author.Tests.{eq-eqb, ne-eqb}
 use borrow.Author.Needs.{needs}
+use Rattle.numbers.specs.Search.{isIn}
 use Rattle.numbers.proofs.search.contains.Statement.{statement}
 use Rattle.numbers.proofs.search.contains.Tie as tie
-use Rattle.numbers.proofs.search.contains.Reads as reads
-use Rattle.numbers.proofs.search.contains.Lts as lts
 
 hit : (s : List ℕ) (x i : ℕ) → i < length s → x ≡ getD s i 0 → isIn x (drop i s) ≡ true
 unfolding isIn

@@ -1,18 +1,16 @@
 -- `search::zeros` meets its contract: what is left to test answers as the whole part does.
-use Rattle.numbers.specs.Search.{zerosAt}
-use lib.ListN.{length, getD}
-use mathlib.Core.Bool.{true, false}
-use mathlib.Core.List.{List}
-use mathlib.Core.Path.{_≡_, refl, sym, ap, _∙_}
 use Prim.Native.Nat.{ℕ, suc, _≤_, _<_, _+_, _-_}
 use native.Mathlib.Nat.{add-sub-cancel-left}
 use native.Mathlib.Omega.{arith}
+use mathlib.Core.Bool.{true, false}
+use mathlib.Core.List.{List}
+use mathlib.Core.Path.{_≡_, sym, _∙_}
+use lib.ListN.{getD}
 use borrow.Author.Tests.{eq-eqb, ne-eqb}
 use borrow.Author.Needs.{needs}
+use Rattle.numbers.specs.Search.{zerosAt}
 use Rattle.numbers.proofs.search.zeros.Statement.{statement}
 use Rattle.numbers.proofs.search.zeros.Tie as tie
-use Rattle.numbers.proofs.search.zeros.Reads as reads
-use Rattle.numbers.proofs.search.zeros.Lts as lts
 
 left : (end i : ℕ) → i < end → end - i ≡ suc (end - (i + 1))
 left end i h = omega arith

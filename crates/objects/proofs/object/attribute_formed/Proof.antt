@@ -1,15 +1,13 @@
-use denote.Ref.{now}
--- `object::attribute_formed` meets its contract. An object under 8 bytes has no name length, and its own length fails the row's test.
-use Rattle.objects.specs.Forms.{hasForm, attributeFormed, roundedUpTo4, nameLength}
-use borrow.Author.Tests.{eq-eqb, ne-eqb}
-use native.Mathlib.Omega.{arith}
 use Prim.Native.Nat.{_+_}
+use native.Mathlib.Omega.{arith}
+use denote.Ref.{now}
+use borrow.Author.Tests.{eq-eqb, ne-eqb}
 use borrow.Author.Needs.{needs}
+use Rattle.objects.specs.Forms.{hasForm, attributeFormed, roundedUpTo4, nameLength}
 use Rattle.objects.proofs.object.attribute_formed.Statement.{statement}
 use Rattle.objects.proofs.object.attribute_formed.Tie as tie
-use Rattle.objects.proofs.object.attribute_formed.Reads as reads
-use Rattle.objects.proofs.object.attribute_formed.Lts as lts
-use Rattle.numbers.proofs.search.zeros.Reads as zeros-reads
+
+-- `object::attribute_formed` meets its contract. An object under 8 bytes has no name length, and its own length fails the row's test.
 
 returns : tie.Need-returns
 unfolding attributeFormed hasForm

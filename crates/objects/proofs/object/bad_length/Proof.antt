@@ -1,12 +1,9 @@
 -- `object::bad_length` meets its contract: the length is read only where there is room for a header.
-use Rattle.objects.specs.Item.{badLength}
 use borrow.Author.Tests.{lt-ltb, le-ltb}
 use borrow.Author.Needs.{needs}
+use Rattle.objects.specs.Item.{badLength}
 use Rattle.objects.proofs.object.bad_length.Statement.{statement}
 use Rattle.objects.proofs.object.bad_length.Tie as tie
-use Rattle.objects.proofs.object.bad_length.Reads as reads
-use Rattle.objects.proofs.object.bad_length.Lts as lts
-use Rattle.numbers.proofs.big_endian.get16.Reads as get16-reads
 
 sub-left : tie.Need-sub-left
 sub-left c = search needs

@@ -1,13 +1,9 @@
 -- `object::is_formed` meets its contract: at each return the tests passed say which row of `formed` it is.
 use borrow.Author.Tests.{eq-eqb, ne-eqb}
-use Rattle.objects.specs.Forms.{formed}
 use borrow.Author.Needs.{needs}
+use Rattle.objects.specs.Forms.{formed}
 use Rattle.objects.proofs.object.is_formed.Statement.{statement}
 use Rattle.objects.proofs.object.is_formed.Tie as tie
-use Rattle.objects.proofs.object.is_formed.Reads as reads
-use Rattle.objects.proofs.object.is_formed.Lts as lts
-use Rattle.objects.proofs.object.attribute_formed.Reads as attribute-formed-reads
-use Rattle.objects.proofs.object.has_form.Reads as has-form-reads
 
 has-form-requires : tie.Need-has-form-requires
 has-form-requires c κs = search needs

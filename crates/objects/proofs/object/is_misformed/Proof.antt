@@ -1,13 +1,9 @@
 -- `object::is_misformed` meets its contract: a class passed over has no form to miss.
-use Rattle.objects.specs.Forms.{misformed}
 use mathlib.Core.Path.{sym, _∙_}
 use borrow.Author.Needs.{needs}
+use Rattle.objects.specs.Forms.{misformed}
 use Rattle.objects.proofs.object.is_misformed.Statement.{statement}
 use Rattle.objects.proofs.object.is_misformed.Tie as tie
-use Rattle.objects.proofs.object.is_misformed.Reads as reads
-use Rattle.objects.proofs.object.is_misformed.Lts as lts
-use Rattle.objects.proofs.object.is_formed.Reads as is-formed-reads
-use Rattle.objects.proofs.object.passed_over.Reads as passed-over-reads
 
 passed-over-requires : tie.Need-passed-over-requires
 passed-over-requires c κs = search needs

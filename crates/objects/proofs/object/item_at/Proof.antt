@@ -1,28 +1,21 @@
 -- `object::item_at` meets its contract: at each return the tests passed say which case of `itemAt` it is.
-use Rattle.objects.proofs.Steps.{good-length}
+use Prim.Native.Nat.{ℕ, _<_}
+use native.Mathlib.Omega.{arith}
+use mathlib.Core.List.{List}
+use mathlib.Core.Bool.{Bool, true, false, cond}
+use mathlib.Core.Path.{_≡_, refl, sym, _∙_}
+use lib.ListN.{length}
+use borrow.Author.Tests.{le-leb, lt-leb}
+use borrow.Author.Needs.{needs}
 use Rattle.objects.specs.Item.{objectAt, badLength, itemAt}
 use Rattle.objects.specs.Forms.{misformed}
 use Rattle.objects.specs.Classes.{refusedClass}
 use Rattle.objects.specs.declared.object.Item.the-variants.{Faulty, Found}
 use Rattle.objects.specs.declared.object.Object.{Object}
 use Rattle.objects.specs.declared.fault.Fault.the-variants.{ObjectClass, ObjectForm}
-use borrow.Author.Tests.{le-leb, lt-leb}
-use denote.Ref.{now}
-use lib.ListN.{length}
-use native.Mathlib.Omega.{arith}
-use Prim.Native.Nat.{ℕ, _+_, _≤_, _<_}
-use mathlib.Core.List.{List}
-use mathlib.Core.Bool.{Bool, true, false, cond}
-use mathlib.Core.Path.{_≡_, refl, sym, _∙_}
-use borrow.Author.Needs.{needs}
+use Rattle.objects.proofs.Steps.{good-length}
 use Rattle.objects.proofs.object.item_at.Statement.{statement}
 use Rattle.objects.proofs.object.item_at.Tie as tie
-use Rattle.objects.proofs.object.item_at.Reads as reads
-use Rattle.objects.proofs.object.item_at.Lts as lts
-use Rattle.objects.proofs.object.bad_length.Reads as bad-length-reads
-use Rattle.objects.proofs.object.is_misformed.Reads as is-misformed-reads
-use Rattle.objects.proofs.object.object_at.Reads as object-at-reads
-use Rattle.objects.proofs.object.refused_class.Reads as refused-class-reads
 
 -- what stands at a place with a good length, by the two tests that are left
 judged : (s : List ℕ) (at : ℕ) (o : Object) (a b : Bool) → at < length s → badLength s at ≡ false → o ≡ objectAt s at

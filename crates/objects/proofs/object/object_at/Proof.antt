@@ -2,9 +2,6 @@
 use borrow.Author.Needs.{needs}
 use Rattle.objects.proofs.object.object_at.Statement.{statement}
 use Rattle.objects.proofs.object.object_at.Tie as tie
-use Rattle.objects.proofs.object.object_at.Reads as reads
-use Rattle.objects.proofs.object.object_at.Lts as lts
-use Rattle.numbers.proofs.big_endian.get16.Reads as get16-reads
 
 add-t3 : tie.Need-add-t3
 add-t3 c = search needs

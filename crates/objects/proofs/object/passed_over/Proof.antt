@@ -1,12 +1,9 @@
 -- `object::passed_over` meets its contract: at each return, what the searches found says which case of `passedOver` holds.
-use Rattle.objects.specs.Classes.{passedOver}
 use mathlib.Core.Path.{sym, _∙_}
 use borrow.Author.Needs.{needs}
+use Rattle.objects.specs.Classes.{passedOver}
 use Rattle.objects.proofs.object.passed_over.Statement.{statement}
 use Rattle.objects.proofs.object.passed_over.Tie as tie
-use Rattle.objects.proofs.object.passed_over.Reads as reads
-use Rattle.objects.proofs.object.passed_over.Lts as lts
-use Rattle.numbers.proofs.search.contains.Reads as contains-reads
 
 slice-aggregate-contains : tie.Need-slice-aggregate-contains
 slice-aggregate-contains c = search needs

@@ -1,12 +1,9 @@
 -- `object::refused_class` meets its contract: at each return, what the searches found says which case of `refusedClass` holds.
-use Rattle.objects.specs.Classes.{refusedClass}
 use mathlib.Core.Path.{sym, _∙_}
 use borrow.Author.Needs.{needs}
+use Rattle.objects.specs.Classes.{refusedClass}
 use Rattle.objects.proofs.object.refused_class.Statement.{statement}
 use Rattle.objects.proofs.object.refused_class.Tie as tie
-use Rattle.objects.proofs.object.refused_class.Reads as reads
-use Rattle.objects.proofs.object.refused_class.Lts as lts
-use Rattle.numbers.proofs.search.contains.Reads as contains-reads
 
 slice-aggregate-contains : tie.Need-slice-aggregate-contains
 slice-aggregate-contains c = search needs

@@ -1,11 +1,8 @@
 -- `walk::nothing_seen` meets its contract, by what `objectsOf` says of no objects.
-use Rattle.objects.specs.Walk.{seen, objectsOf}
 use mathlib.Core.Path.{refl}
-use borrow.Author.Needs.{needs}
+use Rattle.objects.specs.Walk.{seen, objectsOf}
 use Rattle.objects.proofs.walk.nothing_seen.Statement.{statement}
 use Rattle.objects.proofs.walk.nothing_seen.Tie as tie
-use Rattle.objects.proofs.walk.nothing_seen.Reads as reads
-use Rattle.objects.proofs.walk.nothing_seen.Lts as lts
 
 returns : tie.Need-returns
 unfolding seen objectsOf

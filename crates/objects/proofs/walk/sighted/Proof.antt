@@ -3,8 +3,6 @@ use borrow.Author.Tests.{eq-eqb, ne-eqb}
 use borrow.Author.Needs.{needs}
 use Rattle.objects.proofs.walk.sighted.Statement.{statement}
 use Rattle.objects.proofs.walk.sighted.Tie as tie
-use Rattle.objects.proofs.walk.sighted.Reads as reads
-use Rattle.objects.proofs.walk.sighted.Lts as lts
 
 add-t5 : tie.Need-add-t5
 add-t5 c = search needs

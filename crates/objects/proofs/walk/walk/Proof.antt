@@ -1,24 +1,19 @@
 -- `walk::walk` meets its contract: what it has seen is `objectsOf` the objects read, and the walk from here is the walk of the message.
 -- Each object read took four bytes or more, so the counts fit.
-use Rattle.objects.proofs.Steps.{found-at, room, grown, ended, stopped, onward}
-use Rattle.objects.specs.Walk.{withObject, objectsOf, walkFrom, walkOf}
-use Rattle.objects.specs.declared.walk.Walked.the-variants.{Stopped, Whole}
-use Rattle.objects.specs.declared.walk.Objects.{Objects}
-use Rattle.objects.specs.declared.object.Object.{Object}
-use denote.Ref.{now}
-use lib.ListN.{length}
+use Prim.Native.Nat.{ℕ, _+_, _-_, _*_, _≤_}
+use native.Mathlib.Omega.{arith}
 use mathlib.Core.List.{List, [], _∷_}
 use mathlib.Core.Path.{_≡_, refl, sym, ap, _∙_}
-use native.Mathlib.Omega.{arith}
-use Prim.Native.Nat.{ℕ, _+_, _-_, _*_, _≤_}
+use lib.ListN.{length}
+use denote.Ref.{now}
 use borrow.Author.Needs.{needs}
+use Rattle.objects.specs.Walk.{withObject, objectsOf, walkFrom, walkOf}
+use Rattle.objects.specs.declared.walk.Walked.the-variants.{Whole}
+use Rattle.objects.specs.declared.walk.Objects.{Objects}
+use Rattle.objects.specs.declared.object.Object.{Object}
+use Rattle.objects.proofs.Steps.{found-at, room, grown, ended, stopped, onward}
 use Rattle.objects.proofs.walk.walk.Statement.{statement}
 use Rattle.objects.proofs.walk.walk.Tie as tie
-use Rattle.objects.proofs.walk.walk.Reads as reads
-use Rattle.objects.proofs.walk.walk.Lts as lts
-use Rattle.objects.proofs.object.item_at.Reads as item-at-reads
-use Rattle.objects.proofs.walk.nothing_seen.Reads as nothing-seen-reads
-use Rattle.objects.proofs.walk.with_object.Reads as with-object-reads
 
 abbrev Inv-loop : tie.InvT-loop
 Inv-loop s seen₀ at₀ seen at =

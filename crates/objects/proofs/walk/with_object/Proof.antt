@@ -3,9 +3,6 @@ use native.Mathlib.Omega.{arith}
 use borrow.Author.Needs.{needs}
 use Rattle.objects.proofs.walk.with_object.Statement.{statement}
 use Rattle.objects.proofs.walk.with_object.Tie as tie
-use Rattle.objects.proofs.walk.with_object.Reads as reads
-use Rattle.objects.proofs.walk.with_object.Lts as lts
-use Rattle.objects.proofs.walk.sighted.Reads as sighted-reads
 
 sighted-requires : tie.Need-sighted-requires
 sighted-requires c κs = search needs
