@@ -17,9 +17,9 @@ use Rattle.messages.specs.Header.{badMessageLength}
 use Rattle.messages.specs.Counts.{once, atMostOnce, notifyComplete, pathComplete}
 
 -- a length that is not bad
-pub good-length : (s : List ℕ) → badMessageLength s ≡ false → (8 ≤ length s) × (length s ≤ 1024)
+pub good-message-length : (s : List ℕ) → badMessageLength s ≡ false → (8 ≤ length s) × (length s ≤ 1024)
 unfolding badMessageLength
-good-length s e = by (ltb (length s) 8) (ltb 1024 (length s)) (not (eqb (length s % 4) 0)) (not (eqb (be16At s 6) (length s))) refl refl e
+good-message-length s e = by (ltb (length s) 8) (ltb 1024 (length s)) (not (eqb (length s % 4) 0)) (not (eqb (be16At s 6) (length s))) refl refl e
   where
     by : (a b c d : Bool) → ltb (length s) 8 ≡ a → ltb 1024 (length s) ≡ b → (a || (b || c || d)) ≡ false → (8 ≤ length s) × (length s ≤ 1024)
     by true b c d p q e = let z : _≡_ {A = ℕ} 0 1 = cc in absurd (omega arith)

@@ -2,7 +2,7 @@
 use Prim.Native.Nat.{ℕ}
 use mathlib.Core.List.{List, [], _∷_}
 use mathlib.Core.Bool.{Bool, not, _&&_, _||_}
-use lib.Dec.{leb, ltb}
+use lib.Dec.{leb}
 use Rattle.numbers.specs.Search.{isIn}
 
 -- the classes of the table
@@ -39,6 +39,6 @@ skippedClasses = 0 ∷ 3 ∷ 4 ∷ 5 ∷ 12 ∷ 13 ∷ 14 ∷ 19 ∷ 20 ∷ 21 �
 unfoldable pub passedOver : ℕ → Bool
 passedOver class = not (isIn class readClasses) && (isIn class skippedClasses || leb 128 class)
 
--- any other class with its top bit 0
+-- any other class: its top bit is 0
 unfoldable pub refusedClass : ℕ → Bool
-refusedClass class = not (isIn class readClasses) && not (isIn class skippedClasses) && ltb class 128
+refusedClass class = not (isIn class readClasses) && not (passedOver class)

@@ -70,10 +70,7 @@ fn refused_class(class: u8) -> bool
     if contains(&READ, class) {
         return false;
     }
-    if contains(&SKIPPED, class) {
-        return false;
-    }
-    class < 128
+    !passed_over(class)
 }
 
 fn has_form(o: Object, ctype: u8, len: usize) -> bool

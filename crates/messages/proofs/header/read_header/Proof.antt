@@ -4,7 +4,7 @@ use mathlib.Core.Path.{sym, _∙_}
 use borrow.Author.Tests.{eq-eqb, ne-eqb, not-true, not-false}
 use borrow.Author.Needs.{needs}
 use Rattle.messages.specs.Header.{headerOf}
-use Rattle.messages.proofs.Bounds.{good-length}
+use Rattle.messages.proofs.Bounds.{good-message-length}
 use Rattle.messages.proofs.header.read_header.Statement.{statement}
 use Rattle.messages.proofs.header.read_header.Tie as tie
 
@@ -16,14 +16,14 @@ unfolding headerOf
 returns c = simp (sym (c .before .bad-message-length .ensures) ∙ c .if1 .taken)
 
 shared-slice-read-if2 : tie.Need-shared-slice-read-if2
-shared-slice-read-if2 c = omega (arith, good-length _ (sym (c .before .before .bad-message-length .ensures) ∙ c .before .if1 .left))
+shared-slice-read-if2 c = omega (arith, good-message-length _ (sym (c .before .before .bad-message-length .ensures) ∙ c .before .if1 .left))
 
 returns-2 : tie.Need-returns-2
 unfolding headerOf
 returns-2 c = simp (sym (c .before .before .before .bad-message-length .ensures) ∙ c .before .before .if1 .left, ne-eqb _ _ (c .if2 .taken))
 
 checksum-holds-requires : tie.Need-checksum-holds-requires
-checksum-holds-requires c κs = good-length _ (sym (c .before .before .before .bad-message-length .ensures) ∙ c .before .before .if1 .left)
+checksum-holds-requires c κs = good-message-length _ (sym (c .before .before .before .bad-message-length .ensures) ∙ c .before .before .if1 .left)
 
 returns-3 : tie.Need-returns-3
 unfolding headerOf
@@ -31,7 +31,7 @@ returns-3 c =
     simp (sym (c .before .before .before .before .before .bad-message-length .ensures) ∙ c .before .before .before .before .if1 .left, eq-eqb _ _ (c .before .before .if2 .left), sym (c .before .checksum-holds .ensures) ∙ not-true _ (c .if3 .taken))
 
 shared-slice-read-kind-of : tie.Need-shared-slice-read-kind-of
-shared-slice-read-kind-of c = omega (arith, good-length _ (sym (c .before .before .before .before .before .before .bad-message-length .ensures) ∙ c .before .before .before .before .before .if1 .left))
+shared-slice-read-kind-of c = omega (arith, good-message-length _ (sym (c .before .before .before .before .before .before .bad-message-length .ensures) ∙ c .before .before .before .before .before .if1 .left))
 
 kind-of-requires : tie.Need-kind-of-requires
 kind-of-requires c κs = search needs

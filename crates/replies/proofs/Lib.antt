@@ -1,0 +1,4 @@
+pub mod Lengths
+pub mod Seal
+pub mod Written
+pub mod WorkedExample
