@@ -1,0 +1,104 @@
+-- What one more turn of a loop adds to a count, a search, a sum or a test over the places below a bound.
+-- Assumes nothing.
+use Prim.Native.Nat.{ℕ, suc, _+_}
+use native.Mathlib.Nat.{zero-add}
+use native.Mathlib.Numerals.{add-one}
+use native.Mathlib.Omega.{arith}
+use mathlib.Core.Path.{_≡_, refl}
+use mathlib.Core.List.{List, [], _∷_, _++_}
+use mathlib.Core.Bool.{Bool, true, false, cond, _||_, _&&_}
+use lib.Dec.{ltb}
+use borrow.Author.Tests.{lt-ltb}
+use Rattle.lists.specs.Count.{bit, count, has, firstOf, sumOf}
+use Rattle.lists.specs.Below.{when, whole, below, everyBelow}
+use Rattle.lists.proofs.Count.{count-append, has-append}
+
+pub count-when {ℓ} : {A : Type ℓ} (p : A → Bool) (b : Bool) (x : A) → count p (when b x) ≡ bit (b && p x)
+unfolding when
+count-when p true x = omega arith
+count-when p false x = refl
+
+pub has-when {ℓ} : {A : Type ℓ} (p : A → Bool) (b : Bool) (x : A) → has p (when b x) ≡ (b && p x)
+has-when p b x = rw (count-when p b x) (by (b && p x))
+  where
+    by : (s : Bool) → ltb 0 (bit s) ≡ s
+    by true = refl
+    by false = refl
+
+pub has-whole {ℓ} : {A : Type ℓ} (p : A → Bool) (b : Bool) (l : List A) → has p (whole b l) ≡ (b && has p l)
+unfolding whole
+has-whole p true l = refl
+has-whole p false l = refl
+
+sum-when {ℓ} : {A : Type ℓ} (f : A → ℕ) (l : List A) (b : Bool) (x : A) → sumOf f (l ++ when b x) ≡ sumOf f l + cond b (f x) 0
+unfolding when
+sum-when f [] true x = omega arith
+sum-when f [] false x = refl
+sum-when f (y ∷ l) b x = omega (arith, sum-when f l b x)
+
+first-when {ℓ} : {A : Type ℓ} (f : A → ℕ) (p : A → Bool) (l : List A) (b : Bool) (x : A)
+    → firstOf f p (l ++ when b x) ≡ cond (has p l) (firstOf f p l) (cond (b && p x) (f x) 0)
+unfolding when
+first-when f p [] true x = refl
+first-when f p [] false x = refl
+first-when f p (y ∷ l) b x = by (p y) (first-when f p l b x)
+  where
+    by : (s : Bool) → firstOf f p (l ++ when b x) ≡ cond (has p l) (firstOf f p l) (cond (b && p x) (f x) 0)
+        → cond s (f y) (firstOf f p (l ++ when b x)) ≡ cond (ltb 0 (bit s + count p l)) (cond s (f y) (firstOf f p l)) (cond (b && p x) (f x) 0)
+    by true i = rw (lt-ltb 0 (1 + count p l) (omega arith))
+    by false i = rw (zero-add, i)
+
+module _ {ℓ} {A : Type ℓ} (f : ℕ → List A) where
+  pub below-none : below f 0 ≡ []
+  unfolding below
+  below-none = refl
+
+  pub below-more : (n : ℕ) → below f (n + 1) ≡ below f n ++ f n
+  unfolding below
+  below-more n = rw add-one
+
+  pub count-below : (p : A → Bool) (n : ℕ) → count p (below f (suc n)) ≡ count p (below f n) + count p (f n)
+  unfolding below
+  count-below p n = count-append p (below f n) (f n)
+
+  pub count-none : (p : A → Bool) → count p (below f 0) ≡ 0
+  count-none p = rw below-none
+
+  pub count-turn : (p : A → Bool) (i n r : ℕ) (b : Bool) (x : A) → f i ≡ when b x → n ≡ count p (below f i) → r ≡ bit (b && p x)
+      → n + r ≡ count p (below f (i + 1))
+  count-turn p i n r b x e h q = rw (below-more i, count-append p (below f i) (f i), e, count-when p b x, h, q)
+
+  pub has-none : (p : A → Bool) → has p (below f 0) ≡ false
+  has-none p = rw below-none
+
+  pub has-turn : (p : A → Bool) (i : ℕ) (u s b : Bool) (x : A) → f i ≡ when b x → u ≡ has p (below f i) → s ≡ (b && p x)
+      → (u || s) ≡ has p (below f (i + 1))
+  has-turn p i u s b x e h q = rw (below-more i, has-append p (below f i) (f i), e, has-when p b x, h, q)
+
+  -- the same, where a place has a whole list
+  pub has-turns : (p : A → Bool) (i : ℕ) (u s b : Bool) (l : List A) → f i ≡ whole b l → u ≡ has p (below f i) → s ≡ (b && has p l)
+      → (u || s) ≡ has p (below f (i + 1))
+  has-turns p i u s b l e h q = rw (below-more i, has-append p (below f i) (f i), e, has-whole p b l, h, q)
+
+  pub sum-none : (g : A → ℕ) → sumOf g (below f 0) ≡ 0
+  sum-none g = rw below-none
+
+  pub sum-turn : (g : A → ℕ) (i n r : ℕ) (b : Bool) (x : A) → f i ≡ when b x → n ≡ sumOf g (below f i) → r ≡ cond b (g x) 0
+      → n + r ≡ sumOf g (below f (i + 1))
+  sum-turn g i n r b x e h q = rw (below-more i, e, sum-when g (below f i) b x, h, q)
+
+  pub first-none : (g : A → ℕ) (p : A → Bool) → firstOf g p (below f 0) ≡ 0
+  first-none g p = rw below-none
+
+  pub first-turn : (g : A → ℕ) (p : A → Bool) (i n : ℕ) (u s b : Bool) (x : A) → f i ≡ when b x → u ≡ has p (below f i) → n ≡ firstOf g p (below f i)
+      → s ≡ (b && p x) → cond u n (cond s (g x) 0) ≡ firstOf g p (below f (i + 1))
+  first-turn g p i n u s b x e h k q = rw (below-more i, e, first-when g p (below f i) b x, h, k, q)
+
+module _ (p : ℕ → Bool) where
+  pub every-none : everyBelow p 0 ≡ true
+  unfolding everyBelow
+  every-none = refl
+
+  pub every-turn : (i : ℕ) (b s : Bool) → b ≡ everyBelow p i → s ≡ p i → (b && s) ≡ everyBelow p (i + 1)
+  unfolding everyBelow
+  every-turn i b s h q = rw (add-one, h, q)

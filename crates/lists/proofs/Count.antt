@@ -1,0 +1,44 @@
+-- Laws of counts.
+-- Assumes nothing.
+use Prim.Native.Nat.{_+_, _<_}
+use native.Mathlib.Omega.{arith}
+use mathlib.Core.Path.{_≡_, refl}
+use mathlib.Core.List.{List, [], _∷_, _++_}
+use mathlib.Core.Bool.{Bool, true, false, _||_}
+use lib.Dec.{ltb}
+use lib.ListN.{length}
+use borrow.Author.Tests.{lt-ltb, le-ltb, ltb-true, ltb-false}
+use Rattle.lists.specs.Count.{count, has}
+
+pub has-true {ℓ} : {A : Type ℓ} (p : A → Bool) (l : List A) → has p l ≡ true → 0 < count p l
+has-true p l h = ltb-true 0 (count p l) h
+
+pub has-false {ℓ} : {A : Type ℓ} (p : A → Bool) (l : List A) → has p l ≡ false → count p l ≡ 0
+has-false p l h = let k = ltb-false 0 (count p l) h in omega arith
+
+pub true-has {ℓ} : {A : Type ℓ} (p : A → Bool) (l : List A) → 0 < count p l → has p l ≡ true
+true-has p l h = lt-ltb 0 (count p l) h
+
+pub false-has {ℓ} : {A : Type ℓ} (p : A → Bool) (l : List A) → count p l ≡ 0 → has p l ≡ false
+false-has p l h = le-ltb 0 (count p l) (omega arith)
+
+-- two tests that agree
+pub count-ext {ℓ} : {A : Type ℓ} (p q : A → Bool) (l : List A) → ((x : A) → p x ≡ q x) → count p l ≡ count q l
+count-ext p q [] h = refl
+count-ext p q (x ∷ l) h = rw (h x, count-ext p q l h)
+
+pub count-append {ℓ} : {A : Type ℓ} (p : A → Bool) (l k : List A) → count p (l ++ k) ≡ count p l + count p k
+count-append p [] k = omega arith
+count-append p (x ∷ l) k = omega (arith, count-append p l k)
+
+pub has-append {ℓ} : {A : Type ℓ} (p : A → Bool) (l k : List A) → has p (l ++ k) ≡ (has p l || has p k)
+has-append p l k = rw (count-append p l k) (by (has p l) (has p k) refl refl)
+  where
+    by : (s t : Bool) → has p l ≡ s → has p k ≡ t → ltb 0 (count p l + count p k) ≡ (s || t)
+    by true t x y = lt-ltb 0 (count p l + count p k) (omega (arith, has-true p l x))
+    by false true x y = lt-ltb 0 (count p l + count p k) (omega (arith, has-true p k y))
+    by false false x y = le-ltb 0 (count p l + count p k) (omega (arith, has-false p l x, has-false p k y))
+
+pub count-all {ℓ} : {A : Type ℓ} (l : List A) → count (λ x. true) l ≡ length l
+count-all [] = refl
+count-all (x ∷ l) = let i = count-all l in omega arith

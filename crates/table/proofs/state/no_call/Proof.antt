@@ -1,0 +1,18 @@
+-- `state::no_call` meets its contract, by what `noCall` says.
+use Rattle.table.specs.Zeros.{noCall}
+use borrow.Author.Needs.{needs}
+use Rattle.table.proofs.state.no_call.Statement.{statement}
+use Rattle.table.proofs.state.no_call.Tie as tie
+use Rattle.table.proofs.state.no_call.Reads as reads
+use Rattle.table.proofs.state.no_call.Lts as lts
+use Rattle.table.proofs.state.no_place.Reads as no-place-reads
+
+no-place-requires : tie.Need-no-place-requires
+no-place-requires c κs = search needs
+
+returns : tie.Need-returns
+unfolding noCall
+returns c = rw (c .no-place .ensures)
+
+pub no-call-spec : {M : Type 1} → statement M
+no-call-spec = tie.close (tie.spec no-place-requires returns)

@@ -1,0 +1,144 @@
+-- The table rules (01, Table rules), one by one, and the test behind answer 1.
+--
+-- Three rules hold by the table's shape. A connection under a call has no sender and end point of its own: it is of the call's pair, and its
+-- Call ID is that of an open call, since free slots hold zeros. One of Call ID 0 stands with its customer, so that its sender is listed,
+-- since unused roster records hold zeros. A call and a customer have four places each.
+use Prim.Native.Nat.{ℕ, _-_}
+use mathlib.Core.List.{List, [], _∷_}
+use mathlib.Core.Bool.{Bool, true, false, cond, not, _&&_, _||_}
+use lib.Dec.{ltb, leb, eqb}
+use Rattle.numbers.specs.Search.{zerosAt}
+use Rattle.lists.specs.Count.{has, sumOf, noTwo}
+use Rattle.lists.specs.Below.{everyBelow}
+use Rattle.table.specs.declared.state.Place.{Place}
+use Rattle.table.specs.declared.state.Call.{Call}
+use Rattle.table.specs.declared.state.LoosePlace.{LoosePlace}
+use Rattle.table.specs.declared.state.Customer.{Customer}
+use Rattle.table.specs.declared.state.Table.{Table}
+use Rattle.table.specs.Total.{totalOf}
+use Rattle.table.specs.Word.{isUsed}
+use Rattle.table.specs.Lists.{Terms, customerAt, roster, Ids, Entry, callAt, entries, placeAt, Lsp, Held, loosePlaceAt, held}
+use Rattle.table.specs.Share.{listed, callsOf, S}
+
+-- ---- an acceptable roster (01, The roster: 44, 45, 46)
+
+-- limit 0, limit above the total, or guarantee above limit
+unfoldable pub badShare : ℕ → Terms → Bool
+badShare total c = eqb (c .limit) 0 || ltb total (c .limit) || ltb (c .limit) (c .guarantee)
+
+abbrev pub sameAddress : Terms → Terms → Bool
+sameAddress c d = eqb (c .address) (d .address)
+
+abbrev pub guarantees : List Terms → ℕ
+guarantees r = sumOf (λ c. c .guarantee) r
+
+unfoldable pub acceptable : ℕ → List Terms → Bool
+acceptable total r = not (has (badShare total) r) && noTwo sameAddress r && leb (guarantees r) total
+
+-- acceptable, with an epoch of 24 bits; or empty, with own address and epoch zero
+unfoldable pub rosterHolds : Table → Bool
+rosterHolds t =
+    cond (eqb (t .listed) 0)
+    (eqb (t .address) 0 && eqb (t .epoch) 0)
+    (leb (t .listed) 8 && ltb (t .epoch) 0x1000000 && acceptable (totalOf t) (roster t))
+
+-- ---- calls
+
+abbrev pub stranger : List Terms → Entry → Bool
+stranger r e = not (listed r (e .ids .sender))
+
+abbrev pub overLimit : List Entry → Terms → Bool
+overLimit l c = ltb (c .limit) (callsOf l (c .address))
+
+-- the same bytes, and as many
+unfoldable pub sameBytes : List ℕ → List ℕ → Bool
+sameBytes [] [] = true
+sameBytes [] (y ∷ ys) = false
+sameBytes (x ∷ xs) [] = false
+sameBytes (x ∷ xs) (y ∷ ys) = eqb x y && sameBytes xs ys
+
+-- an address pair is (end point, sender), in this order
+abbrev pub samePair : Ids → Ids → Bool
+samePair c d = eqb (c .endpoint) (d .endpoint) && eqb (c .sender) (d .sender)
+
+-- the same pair has the same short ID, the same long ID
+unfoldable pub sameShort : Ids → Ids → Bool
+sameShort c d = samePair c d && eqb (c .short) (d .short)
+
+unfoldable pub sameLong : Ids → Ids → Bool
+sameLong c d = samePair c d && sameBytes (c .long) (d .long)
+
+-- a name of 1 to 32 bytes, and a Call ID that is not 0
+unfoldable pub namesWhole : Call → Bool
+namesWhole c = not (eqb (c .id .0) 0) && not (eqb (c .size) 0) && leb (c .size) 32
+
+-- ---- connections
+
+unfoldable pub sameLsp : Held → Held → Bool
+sameLsp x y =
+    eqb (x .lsp .endpoint) (y .lsp .endpoint)
+    && eqb (x .lsp .sender) (y .lsp .sender)
+    && eqb (x .lsp .tunnel) (y .lsp .tunnel)
+    && eqb (x .lsp .extended) (y .lsp .extended)
+    && eqb (x .lsp .lsp) (y .lsp .lsp)
+
+-- ---- what is free holds zeros
+
+-- a place that is not taken
+unfoldable pub placeClear : Place → Bool
+placeClear p = not (p .taken) && eqb (p .tunnel .0) 0 && eqb (p .extended) 0 && eqb (p .lsp .0) 0
+
+unfoldable pub loosePlaceClear : LoosePlace → Bool
+loosePlaceClear p = not (p .taken) && eqb (p .endpoint) 0 && eqb (p .tunnel .0) 0 && eqb (p .extended) 0 && eqb (p .lsp .0) 0
+
+-- a call's places, those taken excepted; the bytes past its name
+unfoldable pub callTidy : Call → Bool
+callTidy c = zerosAt (c .name) (c .size) (32 - c .size) && everyBelow (λ j. placeAt c j .taken || placeClear (placeAt c j)) 4
+
+-- a free slot
+unfoldable pub callClear : Call → Bool
+callClear c =
+    eqb (c .endpoint) 0 && eqb (c .sender) 0 && eqb (c .id .0) 0 && eqb (c .size) 0 && zerosAt (c .name) 0 32
+    && everyBelow (λ j. placeClear (placeAt c j)) 4
+
+unfoldable pub customerTidy : Customer → Bool
+customerTidy c = everyBelow (λ j. loosePlaceAt c j .taken || loosePlaceClear (loosePlaceAt c j)) 4
+
+-- an unused roster record
+unfoldable pub customerClear : Customer → Bool
+customerClear c = eqb (c .address) 0 && eqb (c .guarantee) 0 && eqb (c .limit) 0 && everyBelow (λ j. loosePlaceClear (loosePlaceAt c j)) 4
+
+abbrev pub slotTidy : Table → ℕ → Bool
+slotTidy t i = cond (isUsed (t .occupied) i) (callTidy (callAt t i)) (callClear (callAt t i))
+
+abbrev pub recordTidy : Table → ℕ → Bool
+recordTidy t k = cond (ltb k (t .listed)) (customerTidy (customerAt t k)) (customerClear (customerAt t k))
+
+-- ---- the rules by name
+
+pub data Rule : Type 0 where
+  rosterAcceptable sendersListed withinLimits shareWithinTotal shortIdsOnce longIdsOnce namesAndIds connectionsOnce freeHoldsZeros : Rule
+
+abbrev pub holds : Rule → Table → Bool
+holds rosterAcceptable t = rosterHolds t
+holds sendersListed t = not (has (stranger (roster t)) (entries t))
+holds withinLimits t = not (has (overLimit (entries t)) (roster t))
+holds shareWithinTotal t = leb (S (roster t) (entries t)) (totalOf t)
+holds shortIdsOnce t = noTwo (λ e f. sameShort (e .ids) (f .ids)) (entries t)
+holds longIdsOnce t = noTwo (λ e f. sameLong (e .ids) (f .ids)) (entries t)
+holds namesAndIds t = everyBelow (λ i. not (isUsed (t .occupied) i) || namesWhole (callAt t i)) (totalOf t)
+holds connectionsOnce t = noTwo sameLsp (held t)
+holds freeHoldsZeros t = everyBelow (slotTidy t) (totalOf t) && everyBelow (recordTidy t) 8
+
+-- answer 1 is given unless every rule holds
+unfoldable pub rulesHold : Table → Bool
+rulesHold t =
+    holds rosterAcceptable t
+    && holds sendersListed t
+    && holds withinLimits t
+    && holds shareWithinTotal t
+    && holds shortIdsOnce t
+    && holds longIdsOnce t
+    && holds namesAndIds t
+    && holds connectionsOnce t
+    && holds freeHoldsZeros t

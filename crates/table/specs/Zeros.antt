@@ -1,0 +1,42 @@
+-- What is free holds zeros (01, Share): free places, free slots, unused roster records; and the empty table of a refused roster.
+use Prim.Native.Nat.{ℕ}
+use mathlib.Core.List.{[]}
+use mathlib.Core.Bool.{false}
+use lib.ListN.{replicate}
+use Rattle.table.specs.declared.state.Place.{Place}
+use Rattle.table.specs.declared.state.Call.{Call}
+use Rattle.table.specs.declared.state.LoosePlace.{LoosePlace}
+use Rattle.table.specs.declared.state.Customer.{Customer}
+use Rattle.table.specs.declared.state.Table.{Table}
+use Rattle.table.specs.Total.{total}
+
+abbrev pub noPlace : Place
+noPlace = record { taken = false; tunnel = record { 0 = 0 }; extended = 0; lsp = record { 0 = 0 } }
+
+abbrev pub noLoosePlace : LoosePlace
+noLoosePlace = record { taken = false; endpoint = 0; tunnel = record { 0 = 0 }; extended = 0; lsp = record { 0 = 0 } }
+
+unfoldable pub noCall : Call
+noCall = record { endpoint = 0; sender = 0; id = record { 0 = 0 }; size = 0; name = replicate 32 0; places = replicate 4 noPlace }
+
+unfoldable pub noCustomer : Customer
+noCustomer = record { address = 0; guarantee = 0; limit = 0; places = replicate 4 noLoosePlace }
+
+-- no customers, all zeros, next own identifier 1
+unfoldable pub emptyTable : Table
+emptyTable = record {
+  address = 0;
+  epoch = 0;
+  next = 1;
+  listed = 0;
+  occupied = 0;
+  customers = replicate 8 noCustomer;
+  calls = replicate total noCall;
+}
+
+-- what an index past an array's end would read: no index goes there, and a definition has to say something
+abbrev pub pastCall : Call
+pastCall = record { endpoint = 0; sender = 0; id = record { 0 = 0 }; size = 0; name = []; places = [] }
+
+abbrev pub pastCustomer : Customer
+pastCustomer = record { address = 0; guarantee = 0; limit = 0; places = [] }
