@@ -2,7 +2,7 @@
 -- Assumes nothing.
 use Prim.Native.Nat.{ℕ, zero, suc, _+_}
 use native.Mathlib.Numerals.{add-one}
-use mathlib.Core.Path.{_≡_, refl, sym}
+use mathlib.Core.Path.{_≡_, refl, sym, ap, ap₂, _∙_}
 use mathlib.Core.List.{List, [], _∷_, _++_}
 use mathlib.Core.Bool.{Bool, true, false, not, _||_, _&&_, and-true, and-assoc, or-false}
 use Rattle.lists.specs.Count.{has, noTwo}
@@ -139,3 +139,13 @@ module _ {ℓ} {A : Type ℓ} (same : A → A → Bool) where
   unfolding whole
   no-two-whole true l = refl
   no-two-whole false l = refl
+
+-- no two alike, where each place has one element or none: what a loop in a loop over the places finds
+pub no-two-places {ℓ} : {A : Type ℓ} (same : A → A → Bool) (u : ℕ → Bool) (x : ℕ → A) (n : ℕ)
+    → noTwo same (below (λ i. when (u i) (x i)) n) ≡ pairsBelow (λ i j. not (u j && (u i && same (x j) (x i)))) n
+no-two-places same u x n =
+    no-two-below same (λ i. when (u i) (x i)) n
+    ∙ ap₂ (λ (a b : Bool). a && b)
+    (pairs-ext _ _ n (λ i j. ap not (meet-when same (u j) (u i) (x j) (x i))))
+    (every-true _ n (λ i. no-two-when same (u i) (x i)))
+    ∙ and-true _

@@ -1,12 +1,8 @@
 -- `state::empty_table` meets its contract, by what `emptyTable` says.
-use Rattle.table.specs.Zeros.{emptyTable}
 use borrow.Author.Needs.{needs}
+use Rattle.table.specs.Zeros.{emptyTable}
 use Rattle.table.proofs.state.empty_table.Statement.{statement}
 use Rattle.table.proofs.state.empty_table.Tie as tie
-use Rattle.table.proofs.state.empty_table.Reads as reads
-use Rattle.table.proofs.state.empty_table.Lts as lts
-use Rattle.table.proofs.state.no_call.Reads as no-call-reads
-use Rattle.table.proofs.state.no_customer.Reads as no-customer-reads
 
 no-customer-requires : tie.Need-no-customer-requires
 no-customer-requires c κs = search needs

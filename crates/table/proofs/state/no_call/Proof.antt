@@ -1,11 +1,8 @@
 -- `state::no_call` meets its contract, by what `noCall` says.
-use Rattle.table.specs.Zeros.{noCall}
 use borrow.Author.Needs.{needs}
+use Rattle.table.specs.Zeros.{noCall}
 use Rattle.table.proofs.state.no_call.Statement.{statement}
 use Rattle.table.proofs.state.no_call.Tie as tie
-use Rattle.table.proofs.state.no_call.Reads as reads
-use Rattle.table.proofs.state.no_call.Lts as lts
-use Rattle.table.proofs.state.no_place.Reads as no-place-reads
 
 no-place-requires : tie.Need-no-place-requires
 no-place-requires c κs = search needs

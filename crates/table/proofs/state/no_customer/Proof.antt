@@ -1,11 +1,8 @@
 -- `state::no_customer` meets its contract, by what `noCustomer` says.
-use Rattle.table.specs.Zeros.{noCustomer}
 use borrow.Author.Needs.{needs}
+use Rattle.table.specs.Zeros.{noCustomer}
 use Rattle.table.proofs.state.no_customer.Statement.{statement}
 use Rattle.table.proofs.state.no_customer.Tie as tie
-use Rattle.table.proofs.state.no_customer.Reads as reads
-use Rattle.table.proofs.state.no_customer.Lts as lts
-use Rattle.table.proofs.state.no_loose_place.Reads as no-loose-place-reads
 
 no-loose-place-requires : tie.Need-no-loose-place-requires
 no-loose-place-requires c κs = search needs

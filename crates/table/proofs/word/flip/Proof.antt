@@ -1,13 +1,11 @@
 -- `word::flip` meets its contract: the mask has one bit.
-use Rattle.table.proofs.Slots.{mask}
-use lib.Bits.{bitXor}
-use mathlib.Core.Path.{ap}
 use Prim.Native.Nat.{ℕ}
+use mathlib.Core.Path.{ap}
+use lib.Bits.{bitXor}
 use borrow.Author.Needs.{needs}
+use Rattle.table.proofs.Slots.{mask}
 use Rattle.table.proofs.word.flip.Statement.{statement}
 use Rattle.table.proofs.word.flip.Tie as tie
-use Rattle.table.proofs.word.flip.Reads as reads
-use Rattle.table.proofs.word.flip.Lts as lts
 
 shl-result : tie.Need-shl-result
 shl-result c = search needs

@@ -1,11 +1,9 @@
 -- `word::open_calls` meets its contract: the word's ones are the open calls.
-use Rattle.table.proofs.Ones.{ones-calls}
 use Prim.Native.Nat.{_<_, _^_}
 use borrow.Author.Needs.{needs}
+use Rattle.table.proofs.Ones.{ones-calls}
 use Rattle.table.proofs.word.open_calls.Statement.{statement}
 use Rattle.table.proofs.word.open_calls.Tie as tie
-use Rattle.table.proofs.word.open_calls.Reads as reads
-use Rattle.table.proofs.word.open_calls.Lts as lts
 
 returns : tie.Need-returns
 returns c =
