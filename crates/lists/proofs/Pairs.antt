@@ -9,7 +9,7 @@ use Rattle.lists.specs.Count.{has, noTwo}
 use Rattle.lists.specs.Below.{when, whole, below, everyBelow}
 use Rattle.lists.specs.Pairs.{meet, pairsBelow}
 use Rattle.lists.proofs.Count.{has-append}
-use Rattle.lists.proofs.Below.{has-when}
+use Rattle.lists.proofs.Below.{has-when, below-more}
 
 -- ---- loops
 
@@ -66,7 +66,7 @@ every-true p (suc n) h = rw (every-true p n h, h n)
 -- ---- no two alike in a list that stands in places
 
 module _ {ℓ} {A : Type ℓ} (same : A → A → Bool) where
-  meet-append : (l m k : List A) → meet same (l ++ m) k ≡ (meet same l k || meet same m k)
+  pub meet-append : (l m k : List A) → meet same (l ++ m) k ≡ (meet same l k || meet same m k)
   unfolding meet
   meet-append [] m k = refl
   meet-append (x ∷ l) m k = rw (meet-append l m k) (by (has (same x) k) (meet same l k) (meet same m k))
@@ -113,6 +113,20 @@ module _ {ℓ} {A : Type ℓ} (same : A → A → Bool) where
       by true false c false = refl
       by false b c d = refl
 
+  -- one place of the first list, or none
+  pub meet-one : (u : Bool) (x : A) (k : List A) → meet same (when u x) k ≡ (u && has (same x) k)
+  unfolding when meet
+  meet-one true x k = or-false (has (same x) k)
+  meet-one false x k = refl
+
+  pub meet-none : (f : ℕ → List A) (k : List A) → meet same (below f 0) k ≡ false
+  unfolding below meet
+  meet-none f k = refl
+
+  pub meet-turn : (f : ℕ → List A) (k : List A) (i : ℕ) (u s b : Bool) (x : A) → f i ≡ when b x → u ≡ meet same (below f i) k → s ≡ (b && has (same x) k)
+      → (u || s) ≡ meet same (below f (i + 1)) k
+  meet-turn f k i u s b x e h q = rw (below-more f i, meet-append (below f i) (f i) k, e, meet-one b x k, h, q)
+
   -- what stands in one place, or in none
   pub meet-when : (u v : Bool) (x y : A) → meet same (when u x) (when v y) ≡ (u && (v && same x y))
   unfolding when meet
@@ -149,3 +163,13 @@ no-two-places same u x n =
     (pairs-ext _ _ n (λ i j. ap not (meet-when same (u j) (u i) (x j) (x i))))
     (every-true _ n (λ i. no-two-when same (u i) (x i)))
     ∙ and-true _
+
+-- the same, where a place has a whole list or none
+pub no-two-lists {ℓ} : {A : Type ℓ} (same : A → A → Bool) (u : ℕ → Bool) (l : ℕ → List A) (n : ℕ)
+    → noTwo same (below (λ i. whole (u i) (l i)) n)
+    ≡ (pairsBelow (λ i j. not (u j && (u i && meet same (l j) (l i)))) n && everyBelow (λ i. not (u i) || noTwo same (l i)) n)
+no-two-lists same u l n =
+    no-two-below same (λ i. whole (u i) (l i)) n
+    ∙ ap₂ (λ (a b : Bool). a && b)
+    (pairs-ext _ _ n (λ i j. ap not (meet-whole same (u j) (u i) (l j) (l i))))
+    (every-ext _ _ n (λ i. no-two-whole same (u i) (l i)))

@@ -1,0 +1,126 @@
+-- `calls::calls_apart` meets its contract: the loops compare every two of the slots, the later one with each before it, and each slot's places.
+use Prim.Native.Nat.{ℕ, _≤_, _-_}
+use native.Mathlib.Omega.{arith}
+use mathlib.Core.Path.{_≡_, _∙_}
+use mathlib.Core.Bool.{Bool, not, _&&_, _||_, and-true}
+use borrow.Author.Needs.{needs}
+use Rattle.lists.specs.Count.{noTwo}
+use Rattle.lists.specs.Below.{everyBelow}
+use Rattle.lists.specs.Pairs.{pairsBelow}
+use Rattle.lists.proofs.Below.{every-none}
+use Rattle.lists.proofs.Pairs.{pairs-none, inner-turn}
+use Rattle.table.specs.declared.state.Table.{Table}
+use Rattle.table.specs.Word.{isUsed}
+use Rattle.table.specs.Lists.{callAt, heldIn}
+use Rattle.table.specs.Rules.{sameLsp}
+use Rattle.uniqueness.proofs.Held.{conflict, once-held}
+use Rattle.uniqueness.proofs.Apart.{slot-turn, slots-apart}
+use Rattle.uniqueness.proofs.calls.calls_apart.Statement.{statement}
+use Rattle.uniqueness.proofs.calls.calls_apart.Tie as tie
+
+-- slots `i` and `j` do not hold calls in conflict
+abbrev apartAt : Table → ℕ → ℕ → Bool
+apartAt t i j = not (isUsed (t .occupied) j && (isUsed (t .occupied) i && conflict (callAt t j) (callAt t i)))
+
+-- slot `i` does not hold a call with a connection twice
+abbrev onceAt : Table → ℕ → Bool
+onceAt t i = not (isUsed (t .occupied) i) || noTwo sameLsp (heldIn (callAt t i))
+
+abbrev Inv-loop2 : tie.InvT-loop2
+Inv-loop2 t apart₀ i d used places j₀ apart j = (j ≤ i) × (apart ≡ (pairsBelow (apartAt t) i && everyBelow (onceAt t) i && everyBelow (apartAt t i) j))
+
+abbrev μ-loop2 : tie.MeasureT-loop2
+μ-loop2 t apart₀ i d used places j₀ apart j = i - j
+
+abbrev Inv-loop : tie.InvT-loop
+Inv-loop t apart₀ i₀ apart i = (i ≤ 64) × (apart ≡ (pairsBelow (apartAt t) i && everyBelow (onceAt t) i))
+
+abbrev μ-loop : tie.MeasureT-loop
+μ-loop t apart₀ i₀ apart i = 64 - i
+
+loop-holds : tie.Need-loop-holds Inv-loop2 μ-loop2 Inv-loop μ-loop
+loop-holds c = (omega arith, rw (pairs-none _, every-none _))
+
+mul-d : tie.Need-mul-d Inv-loop2 μ-loop2 Inv-loop μ-loop
+mul-d c = search needs
+
+element-copy-out-d : tie.Need-element-copy-out-d Inv-loop2 μ-loop2 Inv-loop μ-loop
+element-copy-out-d c = search needs
+
+shr-used : tie.Need-shr-used Inv-loop2 μ-loop2 Inv-loop μ-loop
+shr-used c = search needs
+
+loop2-holds : tie.Need-loop2-holds Inv-loop2 μ-loop2 Inv-loop μ-loop
+loop2-holds c = (omega arith, rw (every-none _, and-true _) (c .before .before .before .loop .inv .1))
+
+mul-c : tie.Need-mul-c Inv-loop2 μ-loop2 Inv-loop μ-loop
+mul-c c = search needs
+
+element-copy-out-c : tie.Need-element-copy-out-c Inv-loop2 μ-loop2 Inv-loop μ-loop
+element-copy-out-c c = search needs
+
+shr-apart : tie.Need-shr-apart Inv-loop2 μ-loop2 Inv-loop μ-loop
+shr-apart c = search needs
+
+in-conflict-requires : tie.Need-in-conflict-requires Inv-loop2 μ-loop2 Inv-loop μ-loop
+in-conflict-requires c κs = search needs
+
+add-j : tie.Need-add-j Inv-loop2 μ-loop2 Inv-loop μ-loop
+add-j c = search needs
+
+loop2-less : tie.Need-loop2-less Inv-loop2 μ-loop2 Inv-loop μ-loop
+loop2-less c = search needs
+
+loop2-again : tie.Need-loop2-again Inv-loop2 μ-loop2 Inv-loop μ-loop
+loop2-again c =
+    let l = c .before .before .before in
+    let o = l .before .before .before .before in
+    let t = o .before .args .t1 in
+    let i = o .loop .i in
+    (omega arith, inner-turn (apartAt t i) (l .loop2 .j) _ (pairsBelow (apartAt t) i && everyBelow (onceAt t) i) _ (l .loop2 .inv .1) (rw (c .in-conflict .ensures)))
+
+places-once-requires : tie.Need-places-once-requires Inv-loop2 μ-loop2 Inv-loop μ-loop
+places-once-requires c κs = search needs
+
+add-i : tie.Need-add-i Inv-loop2 μ-loop2 Inv-loop μ-loop
+add-i c = search needs
+
+loop-less : tie.Need-loop-less Inv-loop2 μ-loop2 Inv-loop μ-loop
+loop-less c = search needs
+
+loop-again : tie.Need-loop-again Inv-loop2 μ-loop2 Inv-loop μ-loop
+loop-again c =
+    let l = c .before .before in
+    let e : l .loop2 .j ≡ l .before .before .before .before .loop .i = omega arith in
+    (omega arith, slot-turn _ _ _ _ _ (rw e at (l .loop2 .inv .1)) (rw (c .places-once .ensures, once-held _)))
+
+returns : tie.Need-returns Inv-loop2 μ-loop2 Inv-loop μ-loop
+returns c =
+    let e : c .before .loop .i ≡ 64 = omega arith in
+    rw e at (c .before .loop .inv .1) ∙ slots-apart _ _ _ _ _ _ 64
+
+pub calls-apart-spec : {M : Type 1} → statement M
+calls-apart-spec =
+    tie.close
+    (tie.spec
+    Inv-loop2
+    μ-loop2
+    Inv-loop
+    μ-loop
+    loop-holds
+    mul-d
+    element-copy-out-d
+    shr-used
+    loop2-holds
+    mul-c
+    element-copy-out-c
+    shr-apart
+    in-conflict-requires
+    add-j
+    loop2-less
+    loop2-again
+    places-once-requires
+    add-i
+    loop-less
+    loop-again
+    returns)

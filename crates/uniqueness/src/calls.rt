@@ -1,0 +1,78 @@
+// The open calls against each other.
+ghost use mathlib.Core.Path.{_≡_};
+ghost use mathlib.Core.Bool.{not, _&&_, _||_};
+ghost use Prim.Native.Nat.{min};
+ghost use lib.ListN.{take};
+ghost use Rattle.lists.specs.Count.{noTwo};
+ghost use Rattle.lists.specs.Below.{below};
+ghost use Rattle.lists.specs.Pairs.{meet};
+ghost use Rattle.table.specs.Total.{totalOf};
+ghost use Rattle.table.specs.Lists.{idsOf, entries, heldIn, heldAt};
+ghost use Rattle.table.specs.Rules.{sameBytes, sameShort, sameLong, sameLsp, holds, shortIdsOnce, longIdsOnce};
+use crate::places::places_meet;
+use crate::places::places_once;
+use table::state::Call;
+use table::state::Table;
+
+// How many of a name's 32 bytes count.
+fn name_size(size: u8) -> usize
+    ensures { λ r. ⌜ r ≡ min size 32 ⌝ }
+{
+    let n = size as usize;
+    if n < 32 { n } else { 32 }
+}
+
+// Two calls have the same long Call ID. Names are compared only where they are as long.
+fn same_name(c: Call, d: Call) -> bool
+    ensures { λ r. ⌜ r ≡ sameBytes (take (c .size) (c .name)) (take (d .size) (d .name)) ⌝ }
+{
+    let n = name_size(c.size);
+    if n != name_size(d.size) {
+        return false;
+    }
+    let mut k: usize = 0;
+    while k < n {
+        if c.name[k] != d.name[k] {
+            return false;
+        }
+        k += 1;
+    }
+    true
+}
+
+// Two open calls that cannot stand beside each other: of one pair, and with the same short ID, the same long ID or a connection in common.
+fn in_conflict(c: Call, d: Call) -> bool
+    ensures { λ r. ⌜ r ≡ (sameShort (idsOf c) (idsOf d) || sameLong (idsOf c) (idsOf d) || meet sameLsp (heldIn c) (heldIn d)) ⌝ }
+{
+    if c.endpoint != d.endpoint {
+        return false;
+    }
+    if c.sender != d.sender {
+        return false;
+    }
+    let a = c.places;
+    let b = d.places;
+    (c.id.0 == d.id.0) | same_name(c, d) | places_meet(a, b)
+}
+
+// No two open calls are in conflict, and none holds a connection twice.
+pub fn calls_apart(t: Table) -> bool
+    ensures { λ r. ⌜ r ≡ (holds shortIdsOnce t && holds longIdsOnce t && noTwo sameLsp (below (heldAt t) (totalOf t))) ⌝ }
+{
+    let mut apart = true;
+    let mut i: usize = 0;
+    while i < 64 {
+        let d = t.calls[i];
+        let used = (t.occupied >> i) % 2 == 1;
+        let places = d.places;
+        let mut j: usize = 0;
+        while j < i {
+            let c = t.calls[j];
+            apart = apart & !(((t.occupied >> j) % 2 == 1) & (used & in_conflict(c, d)));
+            j += 1;
+        }
+        apart = apart & (!used | places_once(places));
+        i += 1;
+    }
+    apart
+}
