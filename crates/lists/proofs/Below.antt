@@ -1,14 +1,17 @@
 -- What one more turn of a loop adds to a count, a search, a sum or a test over the places below a bound.
 -- Assumes nothing.
-use Prim.Native.Nat.{ℕ, suc, _+_}
-use native.Mathlib.Nat.{zero-add}
+use Prim.Native.Nat.{ℕ, zero, suc, _+_, _≤_, _<_}
+use native.Mathlib.Nat.{zero-add, eq-or-lt-of-le, le-of-suc-le-suc, not-suc-le-zero}
 use native.Mathlib.Numerals.{add-one}
 use native.Mathlib.Omega.{arith}
-use mathlib.Core.Path.{_≡_, refl}
-use mathlib.Core.List.{List, [], _∷_, _++_}
+use mathlib.Core.Path.{_≡_, refl, sym, _∙_}
+use mathlib.Core.Logic.{⊎-elim}
+use mathlib.Core.List.{List, [], _∷_, _++_, append-nil}
 use mathlib.Core.Bool.{Bool, true, false, cond, _||_, _&&_}
-use lib.Dec.{ltb}
-use borrow.Author.Tests.{lt-ltb}
+use lib.Dec.{ltb, eqb}
+use lib.ListN.{length, getD, set, length-append, length-set, List·getD-append}
+use lib.Seq.{getD-at, getD-set-same, getD-set-other, ext-getD}
+use borrow.Author.Tests.{lt-ltb, le-ltb, eqb-true, eqb-false}
 use Rattle.lists.specs.Count.{bit, count, has, firstOf, sumOf}
 use Rattle.lists.specs.Below.{when, whole, below, everyBelow}
 use Rattle.lists.proofs.Count.{count-append, has-append}
@@ -94,6 +97,62 @@ module _ {ℓ} {A : Type ℓ} (f : ℕ → List A) where
       → s ≡ (b && p x) → cond u n (cond s (g x) 0) ≡ firstOf g p (below f (i + 1))
   first-turn g p i n u s b x e h k q = rw (below-more i, e, first-when g p (below f i) b x, h, k, q)
 
+  -- ---- places that agree
+
+  pub below-ext : (g : ℕ → List A) (n : ℕ) → ((i : ℕ) → i < n → f i ≡ g i) → below f n ≡ below g n
+  unfolding below
+  below-ext g zero h = refl
+  below-ext g (suc n) h = rw (below-ext g n (λ i l. h i (omega arith)), h n (omega arith))
+
+  pub below-nothing : (n : ℕ) → ((i : ℕ) → i < n → f i ≡ []) → below f n ≡ []
+  unfolding below
+  below-nothing zero h = refl
+  below-nothing (suc n) h = rw (below-nothing n (λ i l. h i (omega arith)), h n (omega arith))
+
+-- ---- one element in each place
+
+module _ {ℓ} {A : Type ℓ} (f : ℕ → A) where
+  pub length-each : (n : ℕ) → length (below (λ i. f i ∷ []) n) ≡ n
+  unfolding below
+  length-each zero = refl
+  length-each (suc n) = omega (arith, length-append (below (λ i. f i ∷ []) n) (f n ∷ []), length-each n)
+
+  pub getD-each : (n i : ℕ) (d : A) → i < n → getD (below (λ i. f i ∷ []) n) i d ≡ f i
+  unfolding below
+  getD-each zero i d h = absurd (not-suc-le-zero h)
+  getD-each (suc n) i d h =
+      let l = length-each n in
+      ⊎-elim
+      (λ (e : i ≡ n). rw e (getD-at (below (λ i. f i ∷ []) n) (f n) [] d n l))
+      (λ (b : i < n). List·getD-append (below (λ i. f i ∷ []) n) (f n ∷ []) d i (omega arith) ∙ getD-each n i d b)
+      (eq-or-lt-of-le (le-of-suc-le-suc h))
+
+-- the first n places are taken, and no other
+pub below-first {ℓ} : {A : Type ℓ} (f : ℕ → A) (n m : ℕ) → n ≤ m → below (λ i. when (ltb i n) (f i)) m ≡ below (λ i. f i ∷ []) n
+unfolding below when
+below-first f zero zero h = refl
+below-first f (suc n) zero h = absurd (not-suc-le-zero h)
+below-first f n (suc m) h =
+    ⊎-elim
+    (λ (e : n ≡ suc m). rw e (below-ext (λ i. when (ltb i (suc m)) (f i)) (λ i. f i ∷ []) (suc m) (λ i l. rw (lt-ltb i (suc m) l))))
+    (λ (l : n < suc m). rw (le-ltb m n (le-of-suc-le-suc l), append-nil) (below-first f n m (le-of-suc-le-suc l)))
+    (eq-or-lt-of-le h)
+
+-- a store, where what stands in the other places stays
+pub set-each {ℓ} : {A : Type ℓ} (f g : ℕ → A) (n k : ℕ) → k < n → ((i : ℕ) → (i ≡ k → ⊥) → f i ≡ g i)
+    → set (below (λ i. f i ∷ []) n) k (g k) ≡ below (λ i. g i ∷ []) n
+set-each f g n k h same =
+    let l = below (λ i. f i ∷ []) n in
+    ext-getD (g k) _ _ (length-set l k (g k) ∙ length-each f n ∙ sym (length-each g n))
+    (λ i b. go i (rw (length-set l k (g k), length-each f n) at b) (eqb i k) refl)
+  where
+    go : (i : ℕ) → i < n → (b : Bool) → eqb i k ≡ b → getD (set (below (λ i. f i ∷ []) n) k (g k)) i (g k) ≡ getD (below (λ i. g i ∷ []) n) i (g k)
+    go i b true e =
+        rw (eqb-true i k e, getD-each g n k (g k) h) (getD-set-same (below (λ i. f i ∷ []) n) k (g k) (g k) (omega (arith, length-each f n)))
+    go i b false e =
+        rw (getD-set-other (below (λ i. f i ∷ []) n) k i (g k) (g k) (eqb-false i k e), getD-each f n i (g k) b, getD-each g n i (g k) b)
+        (same i (eqb-false i k e))
+
 module _ (p : ℕ → Bool) where
   pub every-none : everyBelow p 0 ≡ true
   unfolding everyBelow
@@ -102,3 +161,8 @@ module _ (p : ℕ → Bool) where
   pub every-turn : (i : ℕ) (b s : Bool) → b ≡ everyBelow p i → s ≡ p i → (b && s) ≡ everyBelow p (i + 1)
   unfolding everyBelow
   every-turn i b s h q = rw (add-one, h, q)
+
+  pub every-within : (n : ℕ) → ((i : ℕ) → i < n → p i ≡ true) → everyBelow p n ≡ true
+  unfolding everyBelow
+  every-within zero h = refl
+  every-within (suc n) h = rw (every-within n (λ i l. h i (omega arith)), h n (omega arith))

@@ -1,6 +1,6 @@
 -- Laws of counts.
 -- Assumes nothing.
-use Prim.Native.Nat.{_+_, _<_}
+use Prim.Native.Nat.{ℕ, _+_, _<_}
 use native.Mathlib.Omega.{arith}
 use mathlib.Core.Path.{_≡_, refl}
 use mathlib.Core.List.{List, [], _∷_, _++_}
@@ -8,7 +8,7 @@ use mathlib.Core.Bool.{Bool, true, false, _||_}
 use lib.Dec.{ltb}
 use lib.ListN.{length}
 use borrow.Author.Tests.{lt-ltb, le-ltb, ltb-true, ltb-false}
-use Rattle.lists.specs.Count.{count, has}
+use Rattle.lists.specs.Count.{count, has, sumOf}
 
 pub has-true {ℓ} : {A : Type ℓ} (p : A → Bool) (l : List A) → has p l ≡ true → 0 < count p l
 has-true p l h = ltb-true 0 (count p l) h
@@ -26,6 +26,15 @@ false-has p l h = le-ltb 0 (count p l) (omega arith)
 pub count-ext {ℓ} : {A : Type ℓ} (p q : A → Bool) (l : List A) → ((x : A) → p x ≡ q x) → count p l ≡ count q l
 count-ext p q [] h = refl
 count-ext p q (x ∷ l) h = rw (h x, count-ext p q l h)
+
+pub sum-ext {ℓ} : {A : Type ℓ} (f g : A → ℕ) (l : List A) → ((x : A) → f x ≡ g x) → sumOf f l ≡ sumOf g l
+sum-ext f g [] h = refl
+sum-ext f g (x ∷ l) h = rw (h x, sum-ext f g l h)
+
+-- a test that nothing passes
+pub has-nothing {ℓ} : {A : Type ℓ} (p : A → Bool) (l : List A) → ((x : A) → p x ≡ false) → has p l ≡ false
+has-nothing p [] h = refl
+has-nothing p (x ∷ l) h = false-has p (x ∷ l) (rw (h x) (omega (arith, has-false p l (has-nothing p l h))))
 
 pub count-append {ℓ} : {A : Type ℓ} (p : A → Bool) (l k : List A) → count p (l ++ k) ≡ count p l + count p k
 count-append p [] k = omega arith

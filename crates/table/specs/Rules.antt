@@ -17,7 +17,7 @@ use Rattle.table.specs.declared.state.Customer.{Customer}
 use Rattle.table.specs.declared.state.Table.{Table}
 use Rattle.table.specs.Total.{totalOf}
 use Rattle.table.specs.Word.{isUsed}
-use Rattle.table.specs.Lists.{Terms, customerAt, roster, Ids, Entry, callAt, entries, placeAt, Lsp, Held, loosePlaceAt, held}
+use Rattle.table.specs.Lists.{Terms, customerAt, roster, Ids, Entry, callAt, entries, placeAt, Held, loosePlaceAt, held}
 use Rattle.table.specs.Share.{listed, callsOf, S}
 
 -- ---- an acceptable roster (01, The roster: 44, 45, 46)

@@ -1,5 +1,4 @@
 -- What is free holds zeros (01, Share): free places, free slots, unused roster records; and the empty table of a refused roster.
-use Prim.Native.Nat.{ℕ}
 use mathlib.Core.List.{[]}
 use mathlib.Core.Bool.{false}
 use lib.ListN.{replicate}

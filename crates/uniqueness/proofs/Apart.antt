@@ -1,26 +1,13 @@
 -- No two open calls in conflict and no connection twice under one call, by pairs of slots: what the loops over the slots find.
 -- Assumes nothing.
-use Prim.Native.Nat.{ℕ, _+_}
+use Prim.Native.Nat.{ℕ}
 use mathlib.Core.Path.{_≡_, refl, ap}
 use mathlib.Core.List.{List}
 use mathlib.Core.Bool.{Bool, true, false, not, _&&_, _||_, and-assoc}
 use Rattle.lists.specs.Count.{noTwo}
 use Rattle.lists.specs.Below.{when, whole, below, everyBelow}
 use Rattle.lists.specs.Pairs.{meet, pairsBelow}
-use Rattle.lists.proofs.Below.{every-turn}
-use Rattle.lists.proofs.Pairs.{outer-turn, pairs-both, pairs-ext, no-two-places, no-two-lists}
-
--- the outer loop's turn, where it tests pairs and single slots at once
-pub slot-turn : (p : ℕ → ℕ → Bool) (q : ℕ → Bool) (i : ℕ) (b s : Bool) → b ≡ (pairsBelow p i && everyBelow q i && everyBelow (p i) i) → s ≡ q i
-    → (b && s) ≡ (pairsBelow p (i + 1) && everyBelow q (i + 1))
-slot-turn p q i b s h e =
-    rw (h, ← (outer-turn p i _ refl), ← (every-turn q i _ s refl e)) (by (pairsBelow p i) (everyBelow q i) (everyBelow (p i) i) s)
-  where
-    by : (a b c d : Bool) → (a && b && c && d) ≡ (a && c && (b && d))
-    by true true c d = refl
-    by true false true d = refl
-    by true false false d = refl
-    by false b c d = refl
+use Rattle.lists.proofs.Pairs.{pairs-both, pairs-ext, no-two-places, no-two-lists}
 
 -- three tests of slots at once: two of what a slot has, one of a list that it has
 pub slots-apart {ℓ ℓ′} : {A : Type ℓ} {B : Type ℓ′} (s l : A → A → Bool) (m : B → B → Bool) (u : ℕ → Bool) (x : ℕ → A) (k : ℕ → List B) (n : ℕ)

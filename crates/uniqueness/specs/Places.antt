@@ -1,5 +1,4 @@
 -- What the loops over places compare: words of private contracts only. No rule cites these.
-use Prim.Native.Nat.{ℕ}
 use mathlib.Core.List.{List}
 use mathlib.Core.Bool.{Bool, _&&_}
 use lib.Dec.{eqb}

@@ -8,13 +8,13 @@ use Rattle.lists.specs.Count.{noTwo}
 use Rattle.lists.specs.Below.{everyBelow}
 use Rattle.lists.specs.Pairs.{pairsBelow}
 use Rattle.lists.proofs.Below.{every-none}
-use Rattle.lists.proofs.Pairs.{pairs-none, inner-turn}
+use Rattle.lists.proofs.Pairs.{pairs-none, inner-turn, outer-turn-both}
 use Rattle.table.specs.declared.state.Table.{Table}
 use Rattle.table.specs.Word.{isUsed}
 use Rattle.table.specs.Lists.{callAt, heldIn}
 use Rattle.table.specs.Rules.{sameLsp}
 use Rattle.uniqueness.proofs.Held.{conflict, once-held}
-use Rattle.uniqueness.proofs.Apart.{slot-turn, slots-apart}
+use Rattle.uniqueness.proofs.Apart.{slots-apart}
 use Rattle.uniqueness.proofs.calls.calls_apart.Statement.{statement}
 use Rattle.uniqueness.proofs.calls.calls_apart.Tie as tie
 
@@ -92,7 +92,7 @@ loop-again : tie.Need-loop-again Inv-loop2 μ-loop2 Inv-loop μ-loop
 loop-again c =
     let l = c .before .before in
     let e : l .loop2 .j ≡ l .before .before .before .before .loop .i = omega arith in
-    (omega arith, slot-turn _ _ _ _ _ (rw e at (l .loop2 .inv .1)) (rw (c .places-once .ensures, once-held _)))
+    (omega arith, outer-turn-both _ _ _ _ _ (rw e at (l .loop2 .inv .1)) (rw (c .places-once .ensures, once-held _)))
 
 returns : tie.Need-returns Inv-loop2 μ-loop2 Inv-loop μ-loop
 returns c =

@@ -1,0 +1,75 @@
+-- The laws of a turn over the records: what it stores, what it adds, and what is left to answer.
+-- Assumes nothing.
+use Prim.Native.Nat.{ℕ, suc, _+_, _-_, _*_, _/_, _%_, _≤_, _<_}
+use native.Mathlib.Nat.{eq-or-lt-of-le}
+use native.Mathlib.Omega.{arith}
+use mathlib.Core.Path.{_≡_, refl, sym}
+use mathlib.Core.Logic.{⊎-elim}
+use mathlib.Core.List.{List, [], _∷_}
+use mathlib.Core.Bool.{Bool, true, false, cond}
+use lib.Dec.{ltb}
+use lib.ListN.{set, replicate}
+use borrow.Author.Tests.{eq-eqb, ne-eqb, ltb-true, ltb-false, lt-ltb, le-ltb}
+use Rattle.numbers.specs.BigEndian.{be16At, be32At}
+use Rattle.lists.specs.Count.{has}
+use Rattle.lists.specs.Below.{when, below}
+use Rattle.lists.proofs.Below.{set-each, sum-turn}
+use Rattle.table.specs.declared.answer.RosterAnswer.the-variants.{Accepted, SpareBits, Share, Repeated, Guarantees}
+use Rattle.table.specs.declared.state.Customer.{Customer}
+use Rattle.table.specs.Zeros.{noCustomer}
+use Rattle.table.specs.Share.{isAt}
+use Rattle.table.specs.Rules.{badShare, guarantees}
+use Rattle.table.specs.Roster.{termsIn, recordsIn, recordsAnswer, customerIn, customersFrom}
+
+-- ---- the customers
+
+pub no-customers : (s : List ℕ) → replicate 8 noCustomer ≡ customersFrom s 0
+unfolding customersFrom below
+no-customers s = refl
+
+-- what stands in place k where n records are in
+abbrev placed : List ℕ → ℕ → ℕ → Customer
+placed s n k = cond (ltb k n) (customerIn s k) noCustomer
+
+other-places : (s : List ℕ) (k i : ℕ) → (i ≡ k → ⊥) → placed s k i ≡ placed s (k + 1) i
+other-places s k i n = go (ltb i k) refl
+  where
+    go : (b : Bool) → ltb i k ≡ b → placed s k i ≡ placed s (k + 1) i
+    go true e = rw (e, lt-ltb i (k + 1) (omega (arith, ltb-true i k e)))
+    go false e = rw (e, le-ltb i (k + 1) (⊎-elim (λ (q : k ≡ i). absurd (n (sym q))) (λ (q : k < i). omega arith) (eq-or-lt-of-le (ltb-false i k e))))
+
+pub one-more-customer : (s : List ℕ) (k : ℕ) → k < 8 → set (customersFrom s k) k (customerIn s k) ≡ customersFrom s (k + 1)
+unfolding customersFrom
+one-more-customer s k h = rw (lt-ltb k (k + 1) (omega arith)) at (set-each (placed s k) (placed s (k + 1)) 8 k h (other-places s k))
+
+-- ---- the guarantees
+
+pub no-guarantees : (s : List ℕ) → 0 ≡ guarantees (recordsIn s 0)
+unfolding below
+no-guarantees s = refl
+
+pub one-more-guarantee : (s : List ℕ) (k sum word : ℕ) → word ≡ be16At s (12 + 6 * k) → sum ≡ guarantees (recordsIn s k)
+    → sum + word / 512 ≡ guarantees (recordsIn s (k + 1))
+unfolding when
+one-more-guarantee s k sum word e h = sum-turn (λ j. termsIn s j ∷ []) (λ c. c .guarantee) k sum (word / 512) true (termsIn s k) refl h (rw e)
+
+-- ---- the answer from record k on, of n: by that record's three tests, and after the last record by the sum
+
+module _ (s : List ℕ) (k n : ℕ) where
+  one-fewer : k < n → n - k ≡ suc (n - (k + 1))
+  one-fewer h = omega arith
+
+  pub spare-bits : (word : ℕ) → k < n → word ≡ be16At s (12 + 6 * k) → (word % 4 ≡ 0 → ⊥) → recordsAnswer s k (n - k) ≡ SpareBits
+  unfolding recordsAnswer
+  spare-bits word h e p = rw (one-fewer h, ← e, ne-eqb (word % 4) 0 p)
+
+  -- `badShare` does not look at the address
+  pub judged : (word address : ℕ) (bad twice : Bool) → k < n → word ≡ be16At s (12 + 6 * k) → address ≡ be32At s (8 + 6 * k) → word % 4 ≡ 0
+      → bad ≡ badShare 64 (record { address = 0; guarantee = word / 512; limit = word / 4 % 128 }) → twice ≡ has (isAt address) (recordsIn s k)
+      → recordsAnswer s k (n - k) ≡ cond bad Share (cond twice Repeated (recordsAnswer s (k + 1) (n - (k + 1))))
+  unfolding recordsAnswer badShare
+  judged word address bad twice h e f p q r = rw (q, r, f, one-fewer h, ← e, eq-eqb (word % 4) 0 p)
+
+  pub summed : (sum : ℕ) → n ≤ k → sum ≡ guarantees (recordsIn s k) → recordsAnswer s k (n - k) ≡ cond (ltb 64 sum) Guarantees Accepted
+  unfolding recordsAnswer
+  summed sum h e = let z : n - k ≡ 0 = omega arith in rw (z, e)

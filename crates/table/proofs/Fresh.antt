@@ -1,0 +1,194 @@
+-- Every table rule holds on the table of an accepted roster, and on the empty one.
+-- Assumes nothing.
+use Prim.Native.Nat.{ℕ, zero, suc, max, _+_, _*_, _≤_, _<_}
+use native.Mathlib.Nat.{zero-add, zero-div, zero-max}
+use native.Mathlib.Omega.{arith}
+use mathlib.Core.Path.{_≡_, refl, sym, _∙_}
+use mathlib.Core.List.{List, [], _∷_}
+use mathlib.Core.Bool.{Bool, true, false, cond, not, _||_}
+use lib.Dec.{ltb, eqb}
+use lib.ListN.{length, getD, replicate, getD-replicate}
+use borrow.Author.Tests.{eqb-true, eqb-false, eq-eqb, ne-eqb, ltb-false, lt-ltb, le-ltb, le-leb}
+use Rattle.numbers.specs.BigEndian.{be24At, be32At}
+use Rattle.numbers.specs.Search.{zerosAt}
+use Rattle.lists.specs.Count.{has, noTwo}
+use Rattle.lists.specs.Below.{when, whole, below, everyBelow}
+use Rattle.lists.proofs.Count.{sum-ext, has-nothing}
+use Rattle.lists.proofs.Below.{has-turn, below-ext, below-nothing, below-first, below-more, getD-each, every-within}
+use Rattle.lists.proofs.Pairs.{no-two-append, meet-element}
+use Rattle.table.specs.declared.answer.RosterAnswer.{RosterAnswer}
+use Rattle.table.specs.declared.answer.RosterAnswer.the-variants.{Accepted, Short, Form, Length, SpareBits, Share, Repeated, Guarantees}
+use Rattle.table.specs.declared.state.Table.{Table}
+use Rattle.table.specs.Total.{total}
+use Rattle.table.specs.Word.{isUsed}
+use Rattle.table.specs.Zeros.{noCall, noCustomer, emptyTable, pastCall, pastCustomer}
+use Rattle.table.specs.Lists.{Terms, customerAt, termsOf, listedAt, roster, openAt, entries, heldAt, looseIn, looseAt, held}
+use Rattle.table.specs.Share.{isAt, S}
+use Rattle.table.specs.Rules.{badShare, sameAddress, guarantees, acceptable, rosterHolds, overLimit, placeClear, loosePlaceClear, callClear, customerTidy, customerClear, slotTidy, recordTidy, withinLimits, shareWithinTotal, namesAndIds, holds, rulesHold}
+use Rattle.table.specs.Roster.{rosterNumber, formIn, customersIn, termsIn, spareIn, recordsIn, badForm, recordsAnswer, rosterAnswer, customerIn, customersFrom, freshTable}
+
+-- ---- a table with no calls and no connections
+
+all-free : (i : ℕ) → isUsed 0 i ≡ false
+all-free i = rw zero-div
+
+free-clear : callClear noCall ≡ true
+unfolding noCall callClear zerosAt everyBelow placeClear
+free-clear = refl
+
+module _ (address epoch : ℕ) (s : List ℕ) (n : ℕ) where
+  -- the first n records of s are listed
+  abbrev idle : Table
+  idle = record {
+    address = address;
+    epoch = epoch;
+    next = 1;
+    listed = n;
+    occupied = 0;
+    customers = customersFrom s n;
+    calls = replicate total noCall;
+  }
+
+  customer-at : (k : ℕ) → k < 8 → customerAt idle k ≡ cond (ltb k n) (customerIn s k) noCustomer
+  unfolding customersFrom
+  customer-at k h = getD-each (λ k. cond (ltb k n) (customerIn s k) noCustomer) 8 k pastCustomer h
+
+  listed-at : (k : ℕ) → k < 8 → listedAt idle k ≡ when (ltb k n) (termsIn s k)
+  unfolding when
+  listed-at k h = rw (customer-at k h) (by (ltb k n))
+    where
+      by : (b : Bool) → when b (termsOf (cond b (customerIn s k) noCustomer)) ≡ when b (termsIn s k)
+      by true = refl
+      by false = refl
+
+  roster-is : n ≤ 8 → roster idle ≡ recordsIn s n
+  roster-is h = below-ext (listedAt idle) (λ k. when (ltb k n) (termsIn s k)) 8 listed-at ∙ below-first (termsIn s) n 8 h
+
+  no-entries : entries idle ≡ []
+  unfolding when
+  no-entries = below-nothing (openAt idle) 64 (λ i h. rw (all-free i))
+
+  none-under-calls : (i : ℕ) → heldAt idle i ≡ []
+  unfolding whole
+  none-under-calls i = rw (all-free i)
+
+  none-loose : (k : ℕ) → k < 8 → looseAt idle k ≡ []
+  unfolding whole when below
+  none-loose k h = rw (customer-at k h) (by (ltb k n))
+    where
+      by : (b : Bool) → whole b (looseIn (cond b (customerIn s k) noCustomer)) ≡ []
+      by true = refl
+      by false = refl
+
+  none-held : held idle ≡ []
+  none-held = rw (below-nothing (heldAt idle) 64 (λ i h. none-under-calls i), below-nothing (looseAt idle) 8 none-loose)
+
+  -- the rules, but for that of the roster itself
+
+  within-limits : holds withinLimits idle ≡ true
+  within-limits = rw (no-entries, has-nothing (overLimit []) (roster idle) (λ c. le-ltb (c .limit) 0 (omega arith)))
+
+  -- S is the sum of the guarantees
+  within-total : n ≤ 8 → guarantees (recordsIn s n) ≤ 64 → holds shareWithinTotal idle ≡ true
+  unfolding S
+  within-total few g =
+      rw (no-entries, roster-is few, sum-ext (λ c. max 0 (c .guarantee)) (λ c. c .guarantee) (recordsIn s n) (λ c. zero-max (c .guarantee)))
+      (le-leb (guarantees (recordsIn s n)) 64 g)
+
+  names-whole : holds namesAndIds idle ≡ true
+  names-whole = every-within _ 64 (λ i h. rw (all-free i))
+
+  slot-tidy : (i : ℕ) → i < 64 → slotTidy idle i ≡ true
+  slot-tidy i h = rw (all-free i, getD-replicate 64 i noCall pastCall h) free-clear
+
+  record-tidy : (k : ℕ) → k < 8 → recordTidy idle k ≡ true
+  unfolding noCustomer customerTidy customerClear everyBelow loosePlaceClear
+  record-tidy k h = rw (customer-at k h) (by (ltb k n))
+    where
+      by : (b : Bool) → cond b (customerTidy (cond b (customerIn s k) noCustomer)) (customerClear (cond b (customerIn s k) noCustomer)) ≡ true
+      by true = refl
+      by false = refl
+
+  idle-holds : n ≤ 8 → guarantees (recordsIn s n) ≤ 64 → rosterHolds idle ≡ true → rulesHold idle ≡ true
+  unfolding rulesHold
+  idle-holds few g r =
+      rw (r, within-limits, within-total few g, names-whole, every-within (slotTidy idle) 64 slot-tidy, every-within (recordTidy idle) 8 record-tidy, no-entries, none-held)
+
+-- the empty table lists no records
+pub empty-holds : rulesHold emptyTable ≡ true
+unfolding emptyTable customersFrom below rosterHolds
+empty-holds = idle-holds 0 0 [] 0 (omega arith) (omega arith) refl
+
+-- ---- what an accepted roster has passed
+
+-- an answer that stands behind a test
+passed : (b : Bool) (x r : RosterAnswer) → eqb (rosterNumber x) 0 ≡ false → cond b x r ≡ Accepted → (b ≡ false) × (r ≡ Accepted)
+passed true x r n e = let z : true ≡ false = rw e at n in (z, cc)
+passed false x r n e = (refl, e)
+
+neither : (a b : Bool) → (a || b) ≡ false → (a ≡ false) × (b ≡ false)
+neither true b h = (h, cc)
+neither false b h = (refl, h)
+
+-- a good form has one to eight customers
+pub good-count : (s : List ℕ) → badForm s ≡ false → (0 < customersIn s) × (customersIn s ≤ 8)
+unfolding badForm
+good-count s h =
+    let m = neither (not (eqb (formIn s) 1) || eqb (customersIn s) 0) (ltb 8 (customersIn s)) h in
+    let z = neither (not (eqb (formIn s) 1)) (eqb (customersIn s) 0) (m .0) in
+    (omega (arith, eqb-false (customersIn s) 0 (z .1)), ltb-false 8 (customersIn s) (m .1))
+
+swapped : (a b : ℕ) → eqb a b ≡ eqb b a
+swapped a b = go (eqb a b) refl
+  where
+    go : (q : Bool) → eqb a b ≡ q → q ≡ eqb b a
+    go true e = sym (eq-eqb b a (sym (eqb-true a b e)))
+    go false e = sym (ne-eqb b a (λ i. eqb-false a b e (sym i)))
+
+one-more-good : (s : List ℕ) (k : ℕ) → has (badShare total) (recordsIn s k) ≡ false → badShare total (termsIn s k) ≡ false
+    → has (badShare total) (recordsIn s (k + 1)) ≡ false
+unfolding when
+one-more-good s k h b = sym (has-turn (λ j. termsIn s j ∷ []) (badShare total) k false false true (termsIn s k) refl (sym h) (sym b))
+
+one-more-apart : (s : List ℕ) (k : ℕ) → noTwo sameAddress (recordsIn s k) ≡ true → has (isAt (be32At s (8 + 6 * k))) (recordsIn s k) ≡ false
+    → noTwo sameAddress (recordsIn s (k + 1)) ≡ true
+one-more-apart s k h d =
+    let r = recordsIn s k in
+    let x = termsIn s k in
+    rw (below-more (λ j. termsIn s j ∷ []) k, no-two-append sameAddress r (x ∷ []), meet-element sameAddress r x (isAt (x .address)) (λ c. swapped (c .address) (x .address)), h, d)
+
+record Good (r : List Terms) : Type 0 where
+  pub shares : has (badShare total) r ≡ false
+  pub apart : noTwo sameAddress r ≡ true
+  pub sum : guarantees r ≤ total
+
+records-good : (s : List ℕ) (k left n : ℕ) → k + left ≡ n → has (badShare total) (recordsIn s k) ≡ false → noTwo sameAddress (recordsIn s k) ≡ true
+    → recordsAnswer s k left ≡ Accepted → Good (recordsIn s n)
+unfolding recordsAnswer
+records-good s k zero n e g a h =
+    let q : n ≡ k = omega arith in
+    let o = passed (ltb total (guarantees (recordsIn s k))) Guarantees Accepted refl h in
+    rw q (record { shares = g; apart = a; sum = ltb-false total (guarantees (recordsIn s k)) (o .0) })
+records-good s k (suc left) n e g a h =
+    let o = passed (not (eqb (spareIn s k) 0)) SpareBits _ refl h in
+    let b = passed (badShare total (termsIn s k)) Share _ refl (o .1) in
+    let d = passed (has (isAt (be32At s (8 + 6 * k))) (recordsIn s k)) Repeated _ refl (b .1) in
+    records-good s (k + 1) left n (omega arith) (one-more-good s k g (b .0)) (one-more-apart s k a (d .0)) (d .1)
+
+good-acceptable : (r : List Terms) → Good r → acceptable total r ≡ true
+unfolding acceptable
+good-acceptable r g = rw (g .shares, g .apart, le-leb (guarantees r) total (g .sum))
+
+-- the bytes are below 256, as those of a slice are
+pub fresh-holds : (s : List ℕ) → ((k : ℕ) → getD s k 0 < 256) → rosterAnswer s ≡ Accepted → rulesHold (freshTable s) ≡ true
+unfolding rosterAnswer freshTable rosterHolds below
+fresh-holds s bytes h =
+    let n = customersIn s in
+    let o = passed (ltb (length s) 8) Short _ refl h in
+    let f = passed (badForm s) Form _ refl (o .1) in
+    let l = passed (not (eqb (length s) (8 + 6 * n))) Length _ refl (f .1) in
+    let c = good-count s (f .0) in
+    let g = records-good s 0 n n (zero-add n) refl refl (l .1) in
+    let e : be24At s 5 < 0x1000000 = omega (arith, bytes 5, bytes 6, bytes 7) in
+    idle-holds (be32At s 1) (be24At s 5) s n (c .1) (g .sum)
+    (rw (ne-eqb n 0 (omega arith), le-leb n 8 (c .1), lt-ltb (be24At s 5) 0x1000000 e, roster-is (be32At s 1) (be24At s 5) s n (c .1)) (good-acceptable (recordsIn s n) g))
