@@ -1,17 +1,22 @@
--- The connections by place, and that those of two senders are never alike.
+-- The connections by place, and that those of two senders or to two end points are never alike.
 -- Assumes nothing.
-use Prim.Native.Nat.{ℕ}
-use mathlib.Core.Path.{_≡_}
+use Prim.Native.Nat.{ℕ, _+_, _<_}
+use native.Mathlib.Nat.{eq-or-lt-of-le, le-of-suc-le-suc}
+use native.Mathlib.Numerals.{add-one}
+use native.Mathlib.Omega.{arith}
+use mathlib.Core.Path.{_≡_, refl, sym}
+use mathlib.Core.Logic.{⊎-elim}
 use mathlib.Core.List.{List}
-use mathlib.Core.Bool.{Bool, false, and-false}
-use lib.Dec.{eqb}
-use borrow.Author.Tests.{ne-eqb}
+use mathlib.Core.Bool.{Bool, true, false, cond, _||_, and-false}
+use lib.Dec.{eqb, ltb}
+use borrow.Author.Tests.{ne-eqb, eqb-false, lt-ltb, ltb-true}
 use Rattle.lists.specs.Below.{when, below}
 use Rattle.lists.specs.Pairs.{meet}
+use Rattle.lists.proofs.Below.{below-ext}
 use Rattle.lists.proofs.Pairs.{meet-never}
 use Rattle.table.specs.declared.state.Call.{Call}
 use Rattle.table.specs.declared.state.Customer.{Customer}
-use Rattle.table.specs.Lists.{Held, placeAt, underCall, loosePlaceAt, withNoCall}
+use Rattle.table.specs.Lists.{Held, placeAt, underCall, loosePlaceAt, withNoCall, heldIn, looseIn}
 use Rattle.table.specs.Rules.{sameLsp}
 
 -- what a call has in one place, and what a customer has
@@ -28,3 +33,35 @@ other-sender x y h = rw (ne-eqb (x .lsp .sender) (y .lsp .sender) h, and-false (
 pub senders-apart : (u v : ℕ → Bool) (x y : ℕ → Held) (n m : ℕ) → ((i k : ℕ) → x i .lsp .sender ≡ y k .lsp .sender → ⊥)
     → meet sameLsp (below (λ i. when (u i) (x i)) n) (below (λ k. when (v k) (y k)) m) ≡ false
 senders-apart u v x y n m h = meet-never sameLsp u v x y n m (λ i k. other-sender (x i) (y k) (h i k))
+
+-- ---- end points
+
+other-endpoint : (x y : Held) → (y .lsp .endpoint ≡ x .lsp .endpoint → ⊥) → sameLsp x y ≡ false
+unfolding sameLsp
+other-endpoint x y h = rw (ne-eqb (x .lsp .endpoint) (y .lsp .endpoint) (λ e. h (sym e)))
+
+-- a turn of the loop over end points: `f` has been `e` nowhere
+pub near-turn : (f : ℕ → ℕ) (e j : ℕ) (near : Bool) → (near ≡ false → (k : ℕ) → k < j → f k ≡ e → ⊥) → (near || eqb (f j) e) ≡ false
+    → (k : ℕ) → k < j + 1 → f k ≡ e → ⊥
+near-turn f e j true h z k b q =
+    let n : _≡_ {A = ℕ} 0 1 = cc in
+    omega arith
+near-turn f e j false h z k b q =
+    ⊎-elim
+    (λ (s : k ≡ j). eqb-false (f j) e z (rw s at q))
+    (λ (s : k < j). h refl k s q)
+    (eq-or-lt-of-le (le-of-suc-le-suc (rw add-one at b)))
+
+-- the places past the customer's four are held to be the first, so that the test is of all places
+pub endpoints-apart : (c : Call) (m : Customer) → ((k : ℕ) → k < 4 → loosePlaceAt m k .endpoint ≡ c .endpoint → ⊥)
+    → meet sameLsp (heldIn c) (looseIn m) ≡ false
+endpoints-apart c m h =
+    rw (below-ext (looseOf m) (λ k. when (loosePlaceAt m k .taken) (y k)) 4 (λ k b. rw (lt-ltb k 4 b)))
+    (meet-never sameLsp _ (λ k. loosePlaceAt m k .taken) (λ i. underCall c (placeAt c i)) y 4 4 (λ i k. other-endpoint _ (y k) (by k (ltb k 4) refl)))
+  where
+    y : ℕ → Held
+    y k = cond (ltb k 4) (withNoCall m (loosePlaceAt m k)) (withNoCall m (loosePlaceAt m 0))
+
+    by : (k : ℕ) (s : Bool) → ltb k 4 ≡ s → cond s (withNoCall m (loosePlaceAt m k)) (withNoCall m (loosePlaceAt m 0)) .lsp .endpoint ≡ c .endpoint → ⊥
+    by k true e q = h k (ltb-true k 4 e) q
+    by k false e q = h 0 (omega arith) q

@@ -44,8 +44,15 @@ fn call_meets(c: Call, m: Customer) -> bool
     if c.sender != m.address {
         return false;
     }
+    // Where none of the customer's is to the call's end point, the places need not be compared.
+    let mut near = false;
+    let mut j: usize = 0;
+    while j < 4 {
+        near = near | (m.places[j].endpoint == c.endpoint);
+        j += 1;
+    }
     let mut found = false;
-    let mut i: usize = 0;
+    let mut i: usize = if near { 0 } else { 4 };
     while i < 4 {
         let p = c.places[i];
         found = found | (p.taken & is_loose(c, p, m));

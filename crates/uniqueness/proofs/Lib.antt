@@ -1,3 +1,4 @@
 pub mod Names
 pub mod Held
+pub mod Near
 pub mod Apart

@@ -1,13 +1,13 @@
 // The open calls against each other.
 ghost use mathlib.Core.Path.{_≡_};
-ghost use mathlib.Core.Bool.{not, _&&_, _||_};
+ghost use mathlib.Core.Bool.{_&&_, _||_};
 ghost use Prim.Native.Nat.{min};
 ghost use lib.ListN.{take};
 ghost use Rattle.lists.specs.Count.{noTwo};
 ghost use Rattle.lists.specs.Below.{below};
 ghost use Rattle.lists.specs.Pairs.{meet};
 ghost use Rattle.table.specs.Total.{totalOf};
-ghost use Rattle.table.specs.Lists.{idsOf, entries, heldIn, heldAt};
+ghost use Rattle.table.specs.Lists.{idsOf, heldIn, heldAt};
 ghost use Rattle.table.specs.Rules.{sameBytes, sameShort, sameLong, sameLsp, holds, shortIdsOnce, longIdsOnce};
 use crate::places::places_meet;
 use crate::places::places_once;
@@ -59,13 +59,31 @@ fn in_conflict(c: Call, d: Call) -> bool
 pub fn calls_apart(t: Table) -> bool
     ensures { λ r. ⌜ r ≡ (holds shortIdsOnce t && holds longIdsOnce t && noTwo sameLsp (below (heldAt t) (totalOf t))) ⌝ }
 {
+    // The pairs beside each other, so that the quick comparison reads them alone.
+    let mut endpoints: [u32; 64] = [0; 64];
+    let mut senders: [u32; 64] = [0; 64];
+    let mut n: usize = 0;
+    while n < 64 {
+        endpoints[n] = t.calls[n].endpoint;
+        senders[n] = t.calls[n].sender;
+        n += 1;
+    }
     let mut apart = true;
     let mut i: usize = 0;
     while i < 64 {
         let d = t.calls[i];
         let used = (t.occupied >> i) % 2 == 1;
         let places = d.places;
-        let mut j: usize = 0;
+        // Calls of two pairs are never in conflict. No early exit: then the compiler compares several slots at a time.
+        let endpoint = d.endpoint;
+        let sender = d.sender;
+        let mut near = false;
+        let mut earlier: usize = 0;
+        while earlier < i {
+            near = near | ((endpoints[earlier] == endpoint) & (senders[earlier] == sender));
+            earlier += 1;
+        }
+        let mut j: usize = if used & near { 0 } else { i };
         while j < i {
             let c = t.calls[j];
             apart = apart & !(((t.occupied >> j) % 2 == 1) & (used & in_conflict(c, d)));

@@ -45,16 +45,19 @@ fn loose_place_clear(p: LoosePlace) -> bool
     !p.taken & (p.endpoint == 0) & (p.tunnel.0 == 0) & (p.extended == 0) & (p.lsp.0 == 0)
 }
 
-// The bytes past a name; a longer size than the name's room leaves none.
+// The bytes past a name; a longer size than the name's room leaves none. No early exit: then the compiler tests several bytes at a time.
 fn past_name_clear(c: Call) -> bool
     ensures { λ r. ⌜ r ≡ zerosAt (c .name) (c .size) (32 - c .size) ⌝ }
 {
     let name = c.name;
-    let size = c.size as usize;
-    if 32 < size {
-        return true;
+    let size = c.size;
+    let mut clear = true;
+    let mut k: u8 = 0;
+    while k < 32 {
+        clear = clear & ((k < size) | (name[k as usize] == 0));
+        k += 1;
     }
-    zeros(&name, size, 32 - size)
+    clear
 }
 
 // The bytes past the name of an open call, and its places that are not taken.
