@@ -5,9 +5,6 @@ use objects::fields::CallId;
 use objects::fields::LspId;
 use objects::fields::TunnelId;
 
-// How many calls the table holds.
-pub const TOTAL: usize = 64;
-
 // A connection under a call: end point and sender are the call's. A place has a mark of its own, since
 // a connection can be all zeros.
 pub struct Place {
