@@ -14,6 +14,7 @@ use lib.Seq.{getD-at, getD-set-same, getD-set-other, ext-getD}
 use borrow.Author.Tests.{lt-ltb, le-ltb, eqb-true, eqb-false}
 use Rattle.lists.specs.Count.{bit, count, has, firstOf, sumOf}
 use Rattle.lists.specs.Below.{when, whole, below, everyBelow}
+use Rattle.lists.proofs.Tests.{both}
 use Rattle.lists.proofs.Count.{count-append, has-append}
 
 pub count-when {ℓ} : {A : Type ℓ} (p : A → Bool) (b : Bool) (x : A) → count p (when b x) ≡ bit (b && p x)
@@ -109,6 +110,36 @@ module _ {ℓ} {A : Type ℓ} (f : ℕ → List A) where
   below-nothing zero h = refl
   below-nothing (suc n) h = rw (below-nothing n (λ i l. h i (omega arith)), h n (omega arith))
 
+-- ---- places that differ in one
+
+module _ {ℓ} {A : Type ℓ} (f g : ℕ → List A) (p : A → Bool) where
+  pub below-same : (n : ℕ) → ((j : ℕ) → j < n → count p (f j) ≡ count p (g j)) → count p (below f n) ≡ count p (below g n)
+  below-same zero h = rw (below-none f, below-none g)
+  below-same (suc n) h = omega (arith, count-below f p n, count-below g p n, below-same n (λ j l. h j (omega arith)), h n (omega arith))
+
+  pub below-one : (i n : ℕ) → i < n → ((j : ℕ) → (j ≡ i → ⊥) → count p (f j) ≡ count p (g j))
+      → count p (below f n) + count p (g i) ≡ count p (below g n) + count p (f i)
+  below-one i zero l h = absurd (not-suc-le-zero l)
+  below-one i (suc n) l h = ⊎-elim last (λ q. before (below-one i n q h) q) (eq-or-lt-of-le (le-of-suc-le-suc l))
+    where
+      last : i ≡ n → count p (below f (suc n)) + count p (g i) ≡ count p (below g (suc n)) + count p (f i)
+      last e =
+          let s = below-same n (λ j q. h j (λ (r : j ≡ i). omega arith)) in
+          rw e (omega (arith, count-below f p n, count-below g p n))
+
+      before : count p (below f n) + count p (g i) ≡ count p (below g n) + count p (f i) → i < n
+          → count p (below f (suc n)) + count p (g i) ≡ count p (below g (suc n)) + count p (f i)
+      before ih q = omega (arith, count-below f p n, count-below g p n, h n (λ (r : n ≡ i). omega arith))
+
+-- what one place counts, all count
+pub count-at {ℓ} : {A : Type ℓ} (f : ℕ → List A) (p : A → Bool) (i n : ℕ) → i < n → count p (f i) ≤ count p (below f n)
+count-at f p i zero l = absurd (not-suc-le-zero l)
+count-at f p i (suc n) l =
+    ⊎-elim
+    (λ (e : i ≡ n). rw e (omega (arith, count-below f p n)))
+    (λ (b : i < n). omega (arith, count-below f p n, count-at f p i n b))
+    (eq-or-lt-of-le (le-of-suc-le-suc l))
+
 -- ---- one element in each place
 
 module _ {ℓ} {A : Type ℓ} (f : ℕ → A) where
@@ -166,3 +197,12 @@ module _ (p : ℕ → Bool) where
   unfolding everyBelow
   every-within zero h = refl
   every-within (suc n) h = rw (every-within n (λ i l. h i (omega arith)), h n (omega arith))
+
+  pub every-at : (n : ℕ) → everyBelow p n ≡ true → (i : ℕ) → i < n → p i ≡ true
+  unfolding everyBelow
+  every-at zero h i l = absurd (not-suc-le-zero l)
+  every-at (suc n) h i l =
+      ⊎-elim
+      (λ (e : i ≡ n). rw e (both (everyBelow p n) (p n) h .1))
+      (λ (b : i < n). every-at n (both (everyBelow p n) (p n) h .0) i b)
+      (eq-or-lt-of-le (le-of-suc-le-suc l))

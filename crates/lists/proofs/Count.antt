@@ -1,14 +1,14 @@
 -- Laws of counts.
 -- Assumes nothing.
-use Prim.Native.Nat.{ℕ, _+_, _<_}
+use Prim.Native.Nat.{ℕ, _+_, _≤_, _<_}
 use native.Mathlib.Omega.{arith}
-use mathlib.Core.Path.{_≡_, refl}
+use mathlib.Core.Path.{_≡_, refl, _∙_}
 use mathlib.Core.List.{List, [], _∷_, _++_}
-use mathlib.Core.Bool.{Bool, true, false, _||_}
+use mathlib.Core.Bool.{Bool, true, false, cond, not, _||_, _&&_, and-true, and-false}
 use lib.Dec.{ltb}
 use lib.ListN.{length}
 use borrow.Author.Tests.{lt-ltb, le-ltb, ltb-true, ltb-false}
-use Rattle.lists.specs.Count.{count, has, sumOf}
+use Rattle.lists.specs.Count.{bit, count, has, sumOf, without}
 
 pub has-true {ℓ} : {A : Type ℓ} (p : A → Bool) (l : List A) → has p l ≡ true → 0 < count p l
 has-true p l h = ltb-true 0 (count p l) h
@@ -51,3 +51,45 @@ has-append p l k = rw (count-append p l k) (by (has p l) (has p k) refl refl)
 pub count-all {ℓ} : {A : Type ℓ} (l : List A) → count (λ x. true) l ≡ length l
 count-all [] = refl
 count-all (x ∷ l) = let i = count-all l in omega arith
+
+-- ---- two tests of one list
+
+pub count-le {ℓ} : {A : Type ℓ} (p q : A → Bool) (l : List A) → ((x : A) → p x ≡ true → q x ≡ true) → count p l ≤ count q l
+count-le p q [] h = omega arith
+count-le p q (x ∷ l) h = by (p x) refl (count-le p q l h)
+  where
+    by : (b : Bool) → p x ≡ b → count p l ≤ count q l → bit b + count p l ≤ bit (q x) + count q l
+    by true e i = rw (h x e) (omega arith)
+    by false e i = omega arith
+
+-- those that pass q, and those that do not
+pub count-split {ℓ} : {A : Type ℓ} (p q : A → Bool) (l : List A) → count p l ≡ count (λ x. q x && p x) l + count (λ x. not (q x) && p x) l
+count-split p q [] = refl
+count-split p q (x ∷ l) = by (q x) (count-split p q l)
+  where
+    by : (b : Bool) → count p l ≡ count (λ x. q x && p x) l + count (λ x. not (q x) && p x) l
+        → bit (p x) + count p l ≡ bit (b && p x) + count (λ x. q x && p x) l + (bit (not b && p x) + count (λ x. not (q x) && p x) l)
+    by true i = omega arith
+    by false i = omega arith
+
+pub count-without {ℓ} : {A : Type ℓ} (p q : A → Bool) (l : List A) → count p (without q l) ≡ count (λ x. not (q x) && p x) l
+count-without p q [] = refl
+count-without p q (x ∷ l) = by (q x) (count-without p q l)
+  where
+    by : (b : Bool) → count p (without q l) ≡ count (λ x. not (q x) && p x) l
+        → count p (cond b (without q l) (x ∷ without q l)) ≡ bit (not b && p x) + count (λ x. not (q x) && p x) l
+    by true i = omega arith
+    by false i = omega arith
+
+-- where all that pass q answer p alike, q's share of p's count is q's count or nothing
+pub count-share {ℓ} : {A : Type ℓ} (p q : A → Bool) (b : Bool) (l : List A) → ((x : A) → q x ≡ true → p x ≡ b)
+    → count (λ x. q x && p x) l ≡ cond b (count q l) 0
+count-share p q b l h = count-ext (λ x. q x && p x) (λ x. q x && b) l (λ x. alike x (q x) refl) ∙ all b
+  where
+    alike : (x : _) (t : Bool) → q x ≡ t → (t && p x) ≡ (t && b)
+    alike x true e = h x e
+    alike x false e = refl
+
+    all : (b : Bool) → count (λ x. q x && b) l ≡ cond b (count q l) 0
+    all true = count-ext (λ x. q x && true) q l (λ x. and-true (q x))
+    all false = has-false (λ x. q x && false) l (has-nothing (λ x. q x && false) l (λ x. and-false (q x)))

@@ -192,3 +192,20 @@ fresh-holds s bytes h =
     let e : be24At s 5 < 0x1000000 = omega (arith, bytes 5, bytes 6, bytes 7) in
     idle-holds (be32At s 1) (be24At s 5) s n (c .1) (g .sum)
     (rw (ne-eqb n 0 (omega arith), le-leb n 8 (c .1), lt-ltb (be24At s 5) 0x1000000 e, roster-is (be32At s 1) (be24At s 5) s n (c .1)) (good-acceptable (recordsIn s n) g))
+
+-- ---- what the table of an accepted roster shows: the roster as read, no calls, no connections
+
+pub fresh-roster : (s : List ℕ) → rosterAnswer s ≡ Accepted → roster (freshTable s) ≡ recordsIn s (customersIn s)
+unfolding rosterAnswer freshTable
+fresh-roster s h =
+    let o = passed (ltb (length s) 8) Short _ refl h in
+    let f = passed (badForm s) Form _ refl (o .1) in
+    roster-is (be32At s 1) (be24At s 5) s (customersIn s) (good-count s (f .0) .1)
+
+pub fresh-entries : (s : List ℕ) → entries (freshTable s) ≡ []
+unfolding freshTable
+fresh-entries s = no-entries (be32At s 1) (be24At s 5) s (customersIn s)
+
+pub fresh-held : (s : List ℕ) → held (freshTable s) ≡ []
+unfolding freshTable
+fresh-held s = none-held (be32At s 1) (be24At s 5) s (customersIn s)

@@ -80,8 +80,11 @@ underCall c p =
 abbrev pub placeAt : Call → ℕ → Place
 placeAt c j = getD (c .places) j noPlace
 
+abbrev pub heldPlace : Call → ℕ → List Held
+heldPlace c j = when (placeAt c j .taken) (underCall c (placeAt c j))
+
 abbrev pub heldIn : Call → List Held
-heldIn c = below (λ j. when (placeAt c j .taken) (underCall c (placeAt c j))) 4
+heldIn c = below (heldPlace c) 4
 
 abbrev pub heldAt : Table → ℕ → List Held
 heldAt t i = whole (isUsed (t .occupied) i) (heldIn (callAt t i))
@@ -94,8 +97,11 @@ withNoCall c p =
 abbrev pub loosePlaceAt : Customer → ℕ → LoosePlace
 loosePlaceAt c j = getD (c .places) j noLoosePlace
 
+abbrev pub loosePlace : Customer → ℕ → List Held
+loosePlace c j = when (loosePlaceAt c j .taken) (withNoCall c (loosePlaceAt c j))
+
 abbrev pub looseIn : Customer → List Held
-looseIn c = below (λ j. when (loosePlaceAt c j .taken) (withNoCall c (loosePlaceAt c j))) 4
+looseIn c = below (loosePlace c) 4
 
 abbrev pub looseAt : Table → ℕ → List Held
 looseAt t k = whole (ltb k (t .listed)) (looseIn (customerAt t k))

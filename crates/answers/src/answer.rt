@@ -1,0 +1,121 @@
+// What a message is answered (document 01, "Every answer").
+ghost use mathlib.Core.Path.{_≡_};
+ghost use Rattle.answers.specs.Answers.{silent, byNotify, byPathErr, rowOf, answerNumber};
+use objects::fault;
+use objects::fault::Fault;
+
+pub enum Answer {
+    // The table handed in breaks a table rule.
+    TableBroken,
+    // Reply buffer under 128 bytes.
+    BufferTooSmall,
+    // A fault of form that the object layer found.
+    Malformed(Fault),
+    SenderNotListed,
+    // Path: its connection stands under another Call ID.
+    UnderOtherCall,
+    // PathTear: of a connection not held.
+    NotHeld,
+    CallOpened,
+    CallAlreadyOpen,
+    CallClosed,
+    ConnectionAdded,
+    ConnectionAlreadyHeld,
+    ConnectionRemoved,
+    // Short ID in use by the pair, long ID not.
+    CallIdContention,
+    // Long ID in use by the pair under another short ID.
+    DuplicateCall,
+    ConnectionsStillExist,
+    // Close: no call of the pair has both IDs.
+    UnknownCall,
+    // Open: the customer's limit, or the room that guarantees leave, is used up.
+    NoShare,
+    // Path: nonzero Call ID, no such call of the pair.
+    PathUnknownCall,
+    // Path: four connections already.
+    NoPlaceLeft,
+}
+
+// What an answer sends.
+pub enum Reply {
+    Nothing,
+    Notify,
+    PathErr,
+}
+
+// A row of document 01's table of answers: the number, what is sent, and the error code and value that it carries, 0 and 0 on
+// success.
+pub struct Row {
+    pub number: u8,
+    pub reply: Reply,
+    pub code: u8,
+    pub value: u16,
+}
+
+fn silent(number: u8) -> Row
+    ensures { λ r. ⌜ r ≡ silent number ⌝ }
+{
+    Row {
+        number,
+        reply: Reply::Nothing,
+        code: 0,
+        value: 0,
+    }
+}
+
+fn by_notify(number: u8, code: u8, value: u16) -> Row
+    ensures { λ r. ⌜ r ≡ byNotify number code value ⌝ }
+{
+    Row {
+        number,
+        reply: Reply::Notify,
+        code,
+        value,
+    }
+}
+
+fn by_path_err(number: u8, code: u8, value: u16) -> Row
+    ensures { λ r. ⌜ r ≡ byPathErr number code value ⌝ }
+{
+    Row {
+        number,
+        reply: Reply::PathErr,
+        code,
+        value,
+    }
+}
+
+pub fn row_of(a: Answer) -> Row
+    ensures { λ r. ⌜ r ≡ rowOf a ⌝ }
+{
+    match a {
+        Answer::TableBroken => silent(1),
+        Answer::BufferTooSmall => silent(2),
+        Answer::Malformed(f) => silent(fault::number(f)),
+        Answer::SenderNotListed => silent(11),
+        Answer::UnderOtherCall => silent(14),
+        Answer::NotHeld => silent(15),
+        Answer::CallOpened => by_notify(20, 0, 0),
+        Answer::CallAlreadyOpen => by_notify(21, 0, 0),
+        Answer::CallClosed => by_notify(22, 0, 0),
+        Answer::ConnectionAdded => silent(23),
+        Answer::ConnectionAlreadyHeld => silent(24),
+        Answer::ConnectionRemoved => silent(25),
+        Answer::CallIdContention => by_notify(30, 32, 1),
+        Answer::DuplicateCall => by_notify(31, 32, 4),
+        Answer::ConnectionsStillExist => by_notify(32, 32, 2),
+        Answer::UnknownCall => by_notify(33, 32, 3),
+        Answer::NoShare => by_notify(34, 2, 0),
+        Answer::PathUnknownCall => by_path_err(35, 32, 3),
+        Answer::NoPlaceLeft => by_path_err(37, 2, 0),
+    }
+}
+
+// The number that document 01 gives the answer.
+pub fn number(a: Answer) -> u8
+    ensures { λ r. ⌜ r ≡ answerNumber a ⌝ }
+{
+    let row = row_of(a);
+    row.number
+}

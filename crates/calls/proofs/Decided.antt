@@ -1,0 +1,259 @@
+-- What each answer says of the tests before it.
+-- Assumes nothing.
+use Prim.Native.Nat.{ℕ, _≤_, _<_}
+use native.Mathlib.Omega.{arith}
+use mathlib.Core.Path.{_≡_, refl}
+use mathlib.Core.Logic.{_⊎_, inl, inr, _≢_}
+use mathlib.Core.List.{List}
+use mathlib.Core.Bool.{Bool, true, false, cond, not, _&&_, _||_, or-true}
+use lib.Dec.{ltb, leb, eqb}
+use borrow.Author.Tests.{eqb-true, eqb-false, eq-eqb, ne-eqb, ltb-true, ltb-false, leb-true, leb-false, le-leb, lt-leb, not-false}
+use Rattle.numbers.specs.Search.{isIn}
+use Rattle.lists.specs.Count.{count, has}
+use Rattle.lists.proofs.Count.{has-true, has-false}
+use Rattle.table.specs.Lists.{Terms, Ids, Entry, Lsp, Held}
+use Rattle.table.specs.Share.{listed, guaranteeOf, limitOf, from, callsOf, S}
+use Rattle.table.specs.Rules.{sameShort, sameLong, sameLsp}
+use Rattle.changes.specs.Calls.{isCall}
+use Rattle.changes.specs.Connections.{sameFour, isCallOf}
+use Rattle.changes.proofs.Share.{S-same}
+use Rattle.changes.proofs.Kept.{MayOpen}
+use Rattle.answers.specs.declared.answer.Answer.{Answer}
+use Rattle.answers.specs.declared.answer.Answer.the-variants.{UnderOtherCall, NotHeld, CallOpened, CallAlreadyOpen, CallClosed, ConnectionAdded, ConnectionAlreadyHeld, ConnectionRemoved, CallIdContention, DuplicateCall, ConnectionsStillExist, UnknownCall, NoShare, PathUnknownCall, NoPlaceLeft}
+use Rattle.answers.specs.Answers.{answerNumber, is}
+use Rattle.calls.specs.CallRules.{isOpen, shortInUse, longInUse, shareUsedUp, openAnswer, isUnder, closeAnswer}
+use Rattle.calls.specs.PathRules.{underOther, addAnswer, dropAnswer}
+use Rattle.calls.specs.Promises.{dueAnswer, Cause}
+
+-- ---- when an answer is given (01, Every answer and Share)
+
+-- 34 at the limit, and at the guarantee where S is the total
+pub share-at-limit : (total : ℕ) (r : List Terms) (l : List Entry) (a : ℕ) → callsOf l a ≡ limitOf r a → shareUsedUp total r l a ≡ true
+unfolding shareUsedUp
+share-at-limit total r l a h = rw (eq-eqb (callsOf l a) (limitOf r a) h)
+
+pub share-no-room : (total : ℕ) (r : List Terms) (l : List Entry) (a : ℕ) → guaranteeOf r a ≤ callsOf l a → S r l ≡ total → shareUsedUp total r l a ≡ true
+unfolding shareUsedUp
+share-no-room total r l a g h = rw (le-leb (guaranteeOf r a) (callsOf l a) g, eq-eqb (S r l) total h) (or-true (eqb (callsOf l a) (limitOf r a)))
+
+module _ (total : ℕ) (r : List Terms) (l : List Entry) (c : Ids) where
+  -- 21: both IDs name one call of the pair
+  pub open-again : isOpen l c ≡ true → openAnswer total r l c ≡ CallAlreadyOpen
+  unfolding openAnswer
+  open-again h = rw h
+
+  -- 31 comes before 30
+  pub open-duplicate : isOpen l c ≡ false → longInUse l c ≡ true → openAnswer total r l c ≡ DuplicateCall
+  unfolding openAnswer
+  open-duplicate h k = rw (h, k)
+
+-- 24: a connection held under the Call ID that the Path names
+pub add-again : (l : List Entry) (h : List Held) (x : Held) → has (underOther x) h ≡ false → has (sameLsp x) h ≡ true → addAnswer l h x ≡ ConnectionAlreadyHeld
+unfolding addAnswer
+add-again l h x p q = rw (p, q)
+
+-- 15 and 25: a PathTear's Call ID is not looked at
+pub drop-whatever-call : (h : List Held) (a b : ℕ) (x : Lsp) → dropAnswer h (record { call = a; lsp = x }) ≡ dropAnswer h (record { call = b; lsp = x })
+unfolding dropAnswer sameLsp
+drop-whatever-call h a b x = refl
+
+-- ---- open: by its four tests
+
+abbrev openBy : Bool → Bool → Bool → Bool → Answer
+openBy known long short share = cond known CallAlreadyOpen (cond long DuplicateCall (cond short CallIdContention (cond share NoShare CallOpened)))
+
+-- an answer's number is another's
+other {ℓ} : {A : Type ℓ} (m n : ℕ) → eqb m n ≡ false → m ≡ n → A
+other m n e q = absurd (eqb-false m n e q)
+
+opens : (a b c d : Bool) → is 20 (openBy a b c d) ≡ true → (b ≡ false) × (c ≡ false) × (d ≡ false)
+opens true b c d h = (cc, cc, cc)
+opens false true c d h = (cc, cc, cc)
+opens false false true d h = (cc, cc, cc)
+opens false false false true h = (cc, cc, cc)
+opens false false false false h = (refl, refl, refl)
+
+never-open : (n : ℕ) → is n CallAlreadyOpen ≡ false → is n DuplicateCall ≡ false → is n CallIdContention ≡ false → is n NoShare ≡ false → is n CallOpened ≡ false
+    → (a b c d : Bool) → is n (openBy a b c d) ≡ false
+never-open n f1 f2 f3 f4 f5 true b c d = f1
+never-open n f1 f2 f3 f4 f5 false true c d = f2
+never-open n f1 f2 f3 f4 f5 false false true d = f3
+never-open n f1 f2 f3 f4 f5 false false false true = f4
+never-open n f1 f2 f3 f4 f5 false false false false = f5
+
+-- what the share test says, either way
+ShareSays : Bool → ℕ → List Terms → List Entry → ℕ → Type 0
+ShareSays true total r l a = (callsOf l a ≡ limitOf r a) ⊎ ((guaranteeOf r a ≤ callsOf l a) × (S r l ≡ total))
+ShareSays false total r l a = (callsOf l a ≢ limitOf r a) × ((callsOf l a < guaranteeOf r a) ⊎ (S r l ≢ total))
+
+share-says : (total : ℕ) (r : List Terms) (l : List Entry) (a : ℕ) (b : Bool) → shareUsedUp total r l a ≡ b → ShareSays b total r l a
+unfolding shareUsedUp ShareSays
+share-says total r l a b h =
+    by (eqb (callsOf l a) (limitOf r a)) (leb (guaranteeOf r a) (callsOf l a)) (eqb (S r l) total) b refl refl refl h
+  where
+    by : (x y z b : Bool) → eqb (callsOf l a) (limitOf r a) ≡ x → leb (guaranteeOf r a) (callsOf l a) ≡ y
+        → eqb (S r l) total ≡ z → (x || (y && z)) ≡ b → ShareSays b total r l a
+    by true y z true p q s h = inl (eqb-true _ _ p)
+    by true y z false p q s h = let n : _≡_ {A = ℕ} 0 1 = cc in (omega arith, inl (omega arith))
+    by false true true true p q s h = inr (leb-true _ _ q, eqb-true _ _ s)
+    by false true true false p q s h = let n : _≡_ {A = ℕ} 0 1 = cc in (omega arith, inl (omega arith))
+    by false true false true p q s h = let n : _≡_ {A = ℕ} 0 1 = cc in inl (omega arith)
+    by false true false false p q s h = (eqb-false _ _ p, inr (eqb-false _ _ s))
+    by false false z true p q s h = let n : _≡_ {A = ℕ} 0 1 = cc in inl (omega arith)
+    by false false z false p q s h = (eqb-false _ _ p, inl (leb-false _ _ q))
+
+module _ (total : ℕ) (r : List Terms) (l : List Entry) (c : Ids) where
+  -- every refusal has its cause
+  cause-by : (x y z w : Bool) → isOpen l c ≡ x → longInUse l c ≡ y → shortInUse l c ≡ z → shareUsedUp total r l (c .sender) ≡ w
+      → Cause total r l c (answerNumber (openBy x y z w))
+  unfolding isIn ShareSays
+  cause-by true y z w a b d e = record { short = other 21 30 refl; long = other 21 31 refl; share = other 21 34 refl; only = refl }
+  cause-by false true z w a b d e = record { short = other 31 30 refl; long = λ n. (b, a); share = other 31 34 refl; only = refl }
+  cause-by false false true w a b d e = record { short = λ n. (d, b); long = other 30 31 refl; share = other 30 34 refl; only = refl }
+  cause-by false false false true a b d e =
+      record { short = other 34 30 refl; long = other 34 31 refl; share = λ n. share-says total r l (c .sender) true e; only = refl }
+  cause-by false false false false a b d e = record { short = other 20 30 refl; long = other 20 31 refl; share = other 20 34 refl; only = refl }
+
+  pub open-cause : Cause total r l c (answerNumber (openAnswer total r l c))
+  unfolding openAnswer
+  open-cause = cause-by (isOpen l c) (longInUse l c) (shortInUse l c) (shareUsedUp total r l (c .sender)) refl refl refl refl
+
+  -- 20 is given only where the call may be opened
+  pub may-open : listed r (c .sender) ≡ true → is 20 (openAnswer total r l c) ≡ true → MayOpen total r l c
+  unfolding openAnswer ShareSays
+  may-open known h =
+      let k = opens (isOpen l c) (longInUse l c) (shortInUse l c) (shareUsedUp total r l (c .sender)) h in
+      let s = share-says total r l (c .sender) false (k .2) in
+      record { known = known; newShort = has-false _ l (k .1); newLong = has-false _ l (k .0); under = s .0; share = s .1 }
+
+  -- a number that is none of an open's answers
+  pub open-never : (n : ℕ) → is n CallAlreadyOpen ≡ false → is n DuplicateCall ≡ false → is n CallIdContention ≡ false → is n NoShare ≡ false → is n CallOpened ≡ false
+      → is n (openAnswer total r l c) ≡ false
+  unfolding openAnswer
+  open-never n f1 f2 f3 f4 f5 = never-open n f1 f2 f3 f4 f5 (isOpen l c) (longInUse l c) (shortInUse l c) (shareUsedUp total r l (c .sender))
+
+  -- the share alone decides on a new call
+  due-by : guaranteeOf r (c .sender) ≤ limitOf r (c .sender) → (b : Bool) → shareUsedUp total r l (c .sender) ≡ b
+      → answerNumber (cond b NoShare CallOpened) ≡ dueAnswer total r l (c .sender)
+  unfolding dueAnswer shareUsedUp
+  due-by g b h = by (ltb (callsOf l (c .sender)) (guaranteeOf r (c .sender))) refl
+    where
+      rest : (x y z b : Bool) → y ≡ true → (x || (y && z)) ≡ b → answerNumber (cond b NoShare CallOpened) ≡ cond (x || z) 34 20
+      rest true y z true e h = refl
+      rest true y z false e h = cc
+      rest false true true true e h = refl
+      rest false true true false e h = cc
+      rest false true false true e h = cc
+      rest false true false false e h = refl
+      rest false false z b e h = cc
+
+      below : (x y z b : Bool) → x ≡ false → y ≡ false → (x || (y && z)) ≡ b → answerNumber (cond b NoShare CallOpened) ≡ 20
+      below true y z b e f h = cc
+      below false true z b e f h = cc
+      below false false z true e f h = cc
+      below false false z false e f h = refl
+
+      by : (s : Bool) → ltb (callsOf l (c .sender)) (guaranteeOf r (c .sender)) ≡ s
+          → answerNumber (cond b NoShare CallOpened) ≡ cond s 20 (cond (eqb (callsOf l (c .sender)) (limitOf r (c .sender)) || eqb (S r l) total) 34 20)
+      by true e =
+          let k : callsOf l (c .sender) < guaranteeOf r (c .sender) = ltb-true _ _ e in
+          below (eqb (callsOf l (c .sender)) (limitOf r (c .sender))) (leb (guaranteeOf r (c .sender)) (callsOf l (c .sender))) (eqb (S r l) total) b
+          (ne-eqb _ _ (λ (q : callsOf l (c .sender) ≡ limitOf r (c .sender)). omega arith)) (lt-leb (guaranteeOf r (c .sender)) (callsOf l (c .sender)) k) h
+      by false e =
+          rest (eqb (callsOf l (c .sender)) (limitOf r (c .sender))) (leb (guaranteeOf r (c .sender)) (callsOf l (c .sender))) (eqb (S r l) total) b
+          (le-leb (guaranteeOf r (c .sender)) (callsOf l (c .sender)) (ltb-false _ _ e)) h
+
+  pub open-due : guaranteeOf r (c .sender) ≤ limitOf r (c .sender) → isOpen l c ≡ false → longInUse l c ≡ false → shortInUse l c ≡ false
+      → answerNumber (openAnswer total r l c) ≡ dueAnswer total r l (c .sender)
+  unfolding openAnswer
+  open-due g p q s = rw (p, q, s) (due-by g (shareUsedUp total r l (c .sender)) refl)
+
+-- the answer to an open goes by the counts alone
+pub open-same : (total : ℕ) (r : List Terms) (l k : List Entry) (c : Ids) → ((p : Entry → Bool) → count p l ≡ count p k)
+    → openAnswer total r l c ≡ openAnswer total r k c
+unfolding openAnswer shareUsedUp
+open-same total r l k c h =
+    rw (h (isCall c), h (λ e. sameLong c (e .ids)), h (λ e. sameShort c (e .ids)), h (from (c .sender)), S-same r l k h)
+
+-- ---- close
+
+abbrev closeBy : Bool → Bool → Answer
+closeBy known busy = cond (not known) UnknownCall (cond busy ConnectionsStillExist CallClosed)
+
+closes : (a b : Bool) → is 22 (closeBy a b) ≡ true → (a ≡ true) × (b ≡ false)
+closes true true h = (cc, cc)
+closes true false h = (refl, refl)
+closes false b h = (cc, cc)
+
+never-close : (n : ℕ) → is n UnknownCall ≡ false → is n ConnectionsStillExist ≡ false → is n CallClosed ≡ false → (a b : Bool) → is n (closeBy a b) ≡ false
+never-close n f1 f2 f3 true true = f2
+never-close n f1 f2 f3 true false = f3
+never-close n f1 f2 f3 false b = f1
+
+module _ (l : List Entry) (h : List Held) (c : Ids) where
+  -- 22 is given only for an open call with no connections
+  pub may-close : is 22 (closeAnswer l h c) ≡ true → (0 < count (isCall c) l) × (count (isUnder c) h ≡ 0)
+  unfolding closeAnswer
+  may-close e =
+      let k = closes (isOpen l c) (has (isUnder c) h) e in
+      (has-true _ l (k .0), has-false _ h (k .1))
+
+  pub close-never : (n : ℕ) → is n UnknownCall ≡ false → is n ConnectionsStillExist ≡ false → is n CallClosed ≡ false → is n (closeAnswer l h c) ≡ false
+  unfolding closeAnswer
+  close-never n f1 f2 f3 = never-close n f1 f2 f3 (isOpen l c) (has (isUnder c) h)
+
+-- ---- Path and PathTear
+
+abbrev addBy : Bool → Bool → Bool → Bool → Answer
+addBy other here unknown full =
+    cond other UnderOtherCall (cond here ConnectionAlreadyHeld (cond unknown PathUnknownCall (cond full NoPlaceLeft ConnectionAdded)))
+
+adds : (a b c d : Bool) → is 23 (addBy a b c d) ≡ true → (b ≡ false) × (c ≡ false) × (d ≡ false)
+adds true b c d h = (cc, cc, cc)
+adds false true c d h = (cc, cc, cc)
+adds false false true d h = (cc, cc, cc)
+adds false false false true h = (cc, cc, cc)
+adds false false false false h = (refl, refl, refl)
+
+never-add : (n : ℕ) → is n UnderOtherCall ≡ false → is n ConnectionAlreadyHeld ≡ false → is n PathUnknownCall ≡ false → is n NoPlaceLeft ≡ false → is n ConnectionAdded ≡ false
+    → (a b c d : Bool) → is n (addBy a b c d) ≡ false
+never-add n f1 f2 f3 f4 f5 true b c d = f1
+never-add n f1 f2 f3 f4 f5 false true c d = f2
+never-add n f1 f2 f3 f4 f5 false false true d = f3
+never-add n f1 f2 f3 f4 f5 false false false true = f4
+never-add n f1 f2 f3 f4 f5 false false false false = f5
+
+module _ (l : List Entry) (h : List Held) (x : Held) where
+  -- 23 is given only where the connection is new, its call is open and one of its four places is free
+  pub may-add : is 23 (addAnswer l h x) ≡ true
+      → (count (sameLsp x) h ≡ 0) × ((x .call ≡ 0 → ⊥) → 0 < count (isCallOf x) l) × (count (sameFour x) h < 4)
+  unfolding addAnswer
+  may-add e =
+      let k = adds (has (underOther x) h) (has (sameLsp x) h) (not (eqb (x .call) 0) && not (has (isCallOf x) l)) (leb 4 (count (sameFour x) h)) e in
+      (has-false _ h (k .0), (λ n. has-true _ l (known (ne-eqb _ _ n) (k .1))), leb-false _ _ (k .2))
+    where
+      known : eqb (x .call) 0 ≡ false → (not (eqb (x .call) 0) && not (has (isCallOf x) l)) ≡ false → has (isCallOf x) l ≡ true
+      known z e = not-false _ (rw z at e)
+
+  pub add-never : (n : ℕ) → is n UnderOtherCall ≡ false → is n ConnectionAlreadyHeld ≡ false → is n PathUnknownCall ≡ false → is n NoPlaceLeft ≡ false
+      → is n ConnectionAdded ≡ false → is n (addAnswer l h x) ≡ false
+  unfolding addAnswer
+  add-never n f1 f2 f3 f4 f5 =
+      never-add n f1 f2 f3 f4 f5 (has (underOther x) h) (has (sameLsp x) h) (not (eqb (x .call) 0) && not (has (isCallOf x) l)) (leb 4 (count (sameFour x) h))
+
+  -- 25 is given only for a connection that is held
+  pub may-drop : is 25 (dropAnswer h x) ≡ true → 0 < count (sameLsp x) h
+  unfolding dropAnswer
+  may-drop e = has-true _ h (by (has (sameLsp x) h) e)
+    where
+      by : (b : Bool) → is 25 (cond b ConnectionRemoved NotHeld) ≡ true → b ≡ true
+      by true e = refl
+      by false e = e
+
+  pub drop-never : (n : ℕ) → is n ConnectionRemoved ≡ false → is n NotHeld ≡ false → is n (dropAnswer h x) ≡ false
+  unfolding dropAnswer
+  drop-never n f1 f2 = by (has (sameLsp x) h)
+    where
+      by : (b : Bool) → is n (cond b ConnectionRemoved NotHeld) ≡ false
+      by true = f1
+      by false = f2

@@ -1,0 +1,6 @@
+pub mod Form
+pub mod CallRules
+pub mod PathRules
+pub mod Handling
+pub mod Ledger
+pub mod Promises

@@ -1,0 +1,103 @@
+-- What a change of one slot does: to the call read there, to the counts over the open calls and the connections, to the rules on slots and to the shape.
+-- Assumes nothing.
+use Prim.Native.Nat.{ℕ, _+_, _^_, _≤_, _<_}
+use native.Mathlib.Omega.{arith}
+use mathlib.Core.Path.{_≡_, refl, sym, ap, _∙_}
+use mathlib.Core.List.{List}
+use mathlib.Core.Bool.{Bool, true, false, cond, _&&_}
+use lib.Dec.{eqb}
+use lib.ListN.{length, length-set}
+use lib.Seq.{getD-set-same, getD-set-other}
+use borrow.Author.Tests.{eqb-true, eqb-false}
+use Rattle.lists.specs.Count.{bit, count}
+use Rattle.lists.specs.Below.{whole, below}
+use Rattle.lists.proofs.Tests.{both}
+use Rattle.lists.proofs.Count.{count-append}
+use Rattle.lists.proofs.Below.{count-when, has-when, below-one}
+use Rattle.lists.proofs.Search.{place-found}
+use Rattle.table.specs.declared.state.Call.{Call}
+use Rattle.table.specs.declared.state.Table.{Table}
+use Rattle.table.specs.Total.{totalOf}
+use Rattle.table.specs.Word.{isUsed}
+use Rattle.table.specs.Zeros.{pastCall}
+use Rattle.table.specs.Lists.{Entry, callAt, idsOf, openAt, entries, Held, heldIn, heldAt, looseAt, held}
+use Rattle.table.specs.Rules.{namesWhole, callTidy, callClear, slotTidy}
+use Rattle.changes.specs.Shape.{Shape}
+use Rattle.changes.specs.Calls.{withSlot, slotOf}
+
+pub count-whole {ℓ} : {A : Type ℓ} (p : A → Bool) (b : Bool) (l : List A) → count p (whole b l) ≡ cond b (count p l) 0
+unfolding whole
+count-whole p true l = refl
+count-whole p false l = refl
+
+-- where an open call passes a test, the slot found is used by one that does
+pub found-slot : (t : Table) (p : Entry → Bool) → 0 < count p (entries t)
+    → (slotOf t p < totalOf t) × (isUsed (t .occupied) (slotOf t p) ≡ true)
+    × (p (record { slot = slotOf t p; ids = idsOf (callAt t (slotOf t p)) }) ≡ true)
+found-slot t p h =
+    let k = slotOf t p in
+    let f = place-found (openAt t) p (totalOf t) h in
+    let e : Entry = record { slot = k; ids = idsOf (callAt t k) } in
+    let u = both (isUsed (t .occupied) k) (p e) (sym (has-when p (isUsed (t .occupied) k) e) ∙ f .passes) in
+    (f .inside, u .0, u .1)
+
+module _ (t : Table) (word i : ℕ) (c : Call) (inside : i < totalOf t) (long : totalOf t ≤ length (t .calls)) where
+  pub call-here : callAt (withSlot t word i c) i ≡ c
+  call-here = getD-set-same (t .calls) i c pastCall (omega arith)
+
+  pub call-other : (j : ℕ) → (j ≡ i → ⊥) → callAt (withSlot t word i c) j ≡ callAt t j
+  call-other j n = getD-set-other (t .calls) i j c pastCall n
+
+  -- what holds of the call put in and of the other slots' calls holds of every slot's
+  by-slot : (q : ℕ → Call → Type 0) → q i c → ((j : ℕ) → j < totalOf t → (j ≡ i → ⊥) → q j (callAt t j))
+      → (j : ℕ) → j < totalOf t → q j (callAt (withSlot t word i c) j)
+  by-slot q h o j l = by (eqb j i) refl
+    where
+      by : (b : Bool) → eqb j i ≡ b → q j (callAt (withSlot t word i c) j)
+      by true e = rw (eqb-true j i e, call-here) h
+      by false e = rw (call-other j (eqb-false j i e)) (o j l (eqb-false j i e))
+
+  pub slot-shape : Shape t → word < 2 ^ 64 → length (c .places) ≡ 4 → Shape (withSlot t word i c)
+  slot-shape s w p = record {
+    calls = simp length-set (s .calls);
+    customers = s .customers;
+    word = w;
+    places = by-slot (λ j d. length (d .places) ≡ 4) p (λ j l n. s .places j l);
+    loosePlaces = s .loosePlaces;
+  }
+
+  -- the word beside it says the same of every other slot
+  module _ (other : (j : ℕ) → (j ≡ i → ⊥) → isUsed word j ≡ isUsed (t .occupied) j) where
+    pub slot-entries : (p : Entry → Bool)
+        → count p (entries (withSlot t word i c)) + bit (isUsed (t .occupied) i && p (record { slot = i; ids = idsOf (callAt t i) }))
+        ≡ count p (entries t) + bit (isUsed word i && p (record { slot = i; ids = idsOf c }))
+    slot-entries p =
+        let x : Entry = record { slot = i; ids = idsOf (callAt t i) } in
+        let y : Entry = record { slot = i; ids = idsOf (callAt (withSlot t word i c) i) } in
+        omega (
+          arith,
+          below-one (openAt (withSlot t word i c)) (openAt t) p i (totalOf t) inside (λ j n. rw (other j n, call-other j n)),
+          count-when p (isUsed (t .occupied) i) x,
+          count-when p (isUsed word i) y ∙ ap (λ d. bit (isUsed word i && p (record { slot = i; ids = idsOf d }))) call-here,
+        )
+
+    pub slot-held : (p : Held → Bool)
+        → count p (held (withSlot t word i c)) + cond (isUsed (t .occupied) i) (count p (heldIn (callAt t i))) 0
+        ≡ count p (held t) + cond (isUsed word i) (count p (heldIn c)) 0
+    slot-held p =
+        omega (
+          arith,
+          count-append p (below (heldAt (withSlot t word i c)) (totalOf t)) (below (looseAt t) 8),
+          count-append p (below (heldAt t) (totalOf t)) (below (looseAt t) 8),
+          below-one (heldAt (withSlot t word i c)) (heldAt t) p i (totalOf t) inside (λ j n. rw (other j n, call-other j n)),
+          count-whole p (isUsed (t .occupied) i) (heldIn (callAt t i)),
+          count-whole p (isUsed word i) (heldIn (callAt (withSlot t word i c) i)) ∙ ap (λ d. cond (isUsed word i) (count p (heldIn d)) 0) call-here,
+        )
+
+    pub slot-names : ((j : ℕ) → j < totalOf t → isUsed (t .occupied) j ≡ true → namesWhole (callAt t j) ≡ true) → (isUsed word i ≡ true → namesWhole c ≡ true)
+        → (j : ℕ) → j < totalOf t → isUsed word j ≡ true → namesWhole (callAt (withSlot t word i c) j) ≡ true
+    slot-names h k = by-slot (λ j d. isUsed word j ≡ true → namesWhole d ≡ true) k (λ j l n u. h j l (sym (other j n) ∙ u))
+
+    pub slot-tidy : ((j : ℕ) → j < totalOf t → slotTidy t j ≡ true) → cond (isUsed word i) (callTidy c) (callClear c) ≡ true
+        → (j : ℕ) → j < totalOf t → slotTidy (withSlot t word i c) j ≡ true
+    slot-tidy h k = by-slot (λ j d. cond (isUsed word j) (callTidy d) (callClear d) ≡ true) k (λ j l n. rw (other j n) (h j l))

@@ -1,0 +1,64 @@
+-- The table with a call opened, closed; and with the next own identifier taken.
+use Prim.Native.Nat.{ℕ}
+use mathlib.Core.Bool.{Bool, _&&_}
+use lib.ListN.{length, set, replicate}
+use Rattle.numbers.specs.Buffer.{atFront}
+use Rattle.lists.specs.Below.{placeOf}
+use Rattle.table.specs.declared.state.Call.{Call}
+use Rattle.table.specs.declared.state.Table.{Table}
+use Rattle.table.specs.Total.{totalOf}
+use Rattle.table.specs.Identifier.{identifierAfter}
+use Rattle.table.specs.Word.{lowestFree, flipped}
+use Rattle.table.specs.Zeros.{noPlace, noCall}
+use Rattle.table.specs.Lists.{Ids, Entry, openAt}
+use Rattle.table.specs.Rules.{sameShort, sameLong}
+
+-- another call in a slot, and the occupancy word beside it
+abbrev pub withSlot : Table → ℕ → ℕ → Call → Table
+withSlot t word i c = record {
+  address = t .address;
+  epoch = t .epoch;
+  next = t .next;
+  listed = t .listed;
+  occupied = word;
+  customers = t .customers;
+  calls = set (t .calls) i c;
+}
+
+-- a call as a slot holds it (01, Share: name bytes past the length, and free places, hold zeros)
+abbrev pub stored : Ids → Call
+stored c = record {
+  endpoint = c .endpoint;
+  sender = c .sender;
+  id = record { 0 = c .short };
+  size = length (c .long);
+  name = atFront (c .long) (replicate 32 0);
+  places = replicate 4 noPlace;
+}
+
+-- 01, Share: a new call takes the lowest free slot
+unfoldable pub opened : Table → Ids → Table
+opened t c = withSlot t (flipped (t .occupied) (lowestFree (t .occupied))) (lowestFree (t .occupied)) (stored c)
+
+-- an entry is the call that has all four
+abbrev pub isCall : Ids → Entry → Bool
+isCall c e = sameShort c (e .ids) && sameLong c (e .ids)
+
+abbrev pub slotOf : Table → (Entry → Bool) → ℕ
+slotOf t p = placeOf (openAt t) p (totalOf t)
+
+-- the call's slot is free again, and what is free holds zeros
+unfoldable pub closed : Table → Ids → Table
+closed t c = withSlot t (flipped (t .occupied) (slotOf t (isCall c))) (slotOf t (isCall c)) noCall
+
+-- 01, Reply bytes: own identifiers rise by one a Notify sent
+abbrev pub identifierTaken : Table → Table
+identifierTaken t = record {
+  address = t .address;
+  epoch = t .epoch;
+  next = identifierAfter (t .next);
+  listed = t .listed;
+  occupied = t .occupied;
+  customers = t .customers;
+  calls = t .calls;
+}
