@@ -47,10 +47,64 @@ module _ (total : ℕ) (r : List Terms) (l : List Entry) (c : Ids) where
   unfolding openAnswer
   open-duplicate h k = rw (h, k)
 
--- 24: a connection held under the Call ID that the Path names
-pub add-again : (l : List Entry) (h : List Held) (x : Held) → has (underOther x) h ≡ false → has (sameLsp x) h ≡ true → addAnswer l h x ≡ ConnectionAlreadyHeld
-unfolding addAnswer
-add-again l h x p q = rw (p, q)
+  pub open-contention : isOpen l c ≡ false → longInUse l c ≡ false → shortInUse l c ≡ true → openAnswer total r l c ≡ CallIdContention
+  unfolding openAnswer
+  open-contention h k m = rw (h, k, m)
+
+  pub open-no-share : isOpen l c ≡ false → longInUse l c ≡ false → shortInUse l c ≡ false → shareUsedUp total r l (c .sender) ≡ true → openAnswer total r l c ≡ NoShare
+  unfolding openAnswer
+  open-no-share h k m n = rw (h, k, m, n)
+
+  pub open-new : isOpen l c ≡ false → longInUse l c ≡ false → shortInUse l c ≡ false → shareUsedUp total r l (c .sender) ≡ false → openAnswer total r l c ≡ CallOpened
+  unfolding openAnswer
+  open-new h k m n = rw (h, k, m, n)
+
+module _ (l : List Entry) (h : List Held) (c : Ids) where
+  pub close-unknown : isOpen l c ≡ false → closeAnswer l h c ≡ UnknownCall
+  unfolding closeAnswer
+  close-unknown p = rw p
+
+  pub close-busy : isOpen l c ≡ true → has (isUnder c) h ≡ true → closeAnswer l h c ≡ ConnectionsStillExist
+  unfolding closeAnswer
+  close-busy p q = rw (p, q)
+
+  pub close-idle : isOpen l c ≡ true → has (isUnder c) h ≡ false → closeAnswer l h c ≡ CallClosed
+  unfolding closeAnswer
+  close-idle p q = rw (p, q)
+
+-- the test of 35
+abbrev pub unknownCall : List Entry → Held → Bool
+unknownCall l x = not (eqb (x .call) 0) && not (has (isCallOf x) l)
+
+module _ (l : List Entry) (h : List Held) (x : Held) where
+  pub add-elsewhere : has (underOther x) h ≡ true → addAnswer l h x ≡ UnderOtherCall
+  unfolding addAnswer
+  add-elsewhere p = rw p
+
+  -- 24: a connection held under the Call ID that the Path names
+  pub add-again : has (underOther x) h ≡ false → has (sameLsp x) h ≡ true → addAnswer l h x ≡ ConnectionAlreadyHeld
+  unfolding addAnswer
+  add-again p q = rw (p, q)
+
+  pub add-unknown : has (underOther x) h ≡ false → has (sameLsp x) h ≡ false → unknownCall l x ≡ true → addAnswer l h x ≡ PathUnknownCall
+  unfolding addAnswer
+  add-unknown p q m = rw (p, q, m)
+
+  pub add-full : has (underOther x) h ≡ false → has (sameLsp x) h ≡ false → unknownCall l x ≡ false → leb 4 (count (sameFour x) h) ≡ true → addAnswer l h x ≡ NoPlaceLeft
+  unfolding addAnswer
+  add-full p q m n = rw (p, q, m, n)
+
+  pub add-new : has (underOther x) h ≡ false → has (sameLsp x) h ≡ false → unknownCall l x ≡ false → leb 4 (count (sameFour x) h) ≡ false → addAnswer l h x ≡ ConnectionAdded
+  unfolding addAnswer
+  add-new p q m n = rw (p, q, m, n)
+
+  pub drop-held : has (sameLsp x) h ≡ true → dropAnswer h x ≡ ConnectionRemoved
+  unfolding dropAnswer
+  drop-held p = rw p
+
+  pub drop-not-held : has (sameLsp x) h ≡ false → dropAnswer h x ≡ NotHeld
+  unfolding dropAnswer
+  drop-not-held p = rw p
 
 -- 15 and 25: a PathTear's Call ID is not looked at
 pub drop-whatever-call : (h : List Held) (a b : ℕ) (x : Lsp) → dropAnswer h (record { call = a; lsp = x }) ≡ dropAnswer h (record { call = b; lsp = x })

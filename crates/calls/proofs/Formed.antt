@@ -11,7 +11,8 @@ use Rattle.messages.specs.declared.message.Message.{Message}
 use Rattle.messages.specs.declared.read.Reading.{Reading}
 use Rattle.messages.specs.declared.read.Reading.the-variants.{Refused, Unfit, Read}
 use Rattle.messages.specs.Read.{readOf}
-use Rattle.messages.proofs.Inside.{Inside, read-inside}
+use Rattle.messages.specs.Inside.{Inside}
+use Rattle.messages.proofs.Inside.{read-inside}
 use Rattle.table.specs.Lists.{Terms}
 use Rattle.table.specs.Share.{listed}
 use Rattle.answers.specs.declared.answer.Answer.{Answer}

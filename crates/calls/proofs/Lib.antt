@@ -4,3 +4,5 @@ pub mod Agreement
 pub mod Step
 pub mod Demand3
 pub mod Named
+pub mod Handled
+pub mod Ruled

@@ -104,20 +104,39 @@ replyAfter t s room a = formReply t s (formOf (roster t) s room) a
 
 -- ---- the whole
 
+-- what the caller gets back: the answer, the reply's length, 0 where none is sent, the table and the buffer
 pub record Handled : Type 0 where
   pub answer : Answer
+  pub length : ℕ
   pub table : Table
-  pub reply : List ℕ
   pub buffer : List ℕ
 
 -- the buffer holds the complete reply and behind it its old bytes, or exactly its old bytes
 abbrev pub handledAs : Table → List ℕ → List ℕ → Answer → Handled
 handledAs t s buffer a = record {
   answer = a;
+  length = length (replyAfter t s (length buffer) a);
   table = tableAfter t s (length buffer) a;
-  reply = replyAfter t s (length buffer) a;
   buffer = atFront (replyAfter t s (length buffer) a) buffer;
 }
 
 abbrev pub handled : Table → List ℕ → List ℕ → Handled
 handled t s buffer = handledAs t s buffer (answerOf t s (length buffer))
+
+-- ---- the same, by what decides: words of the code's contracts
+
+-- an answer that sends nothing and changes nothing
+abbrev pub left : Table → List ℕ → Answer → Handled
+left t buffer a = record { answer = a; length = 0; table = t; buffer = buffer }
+
+-- a message of no fault
+abbrev pub ruledAs : Table → List ℕ → List ℕ → Message → Answer → Handled
+ruledAs t s buffer m a = record {
+  answer = a;
+  length = length (replyTo t s m a);
+  table = identified a (changedBy t s m a);
+  buffer = atFront (replyTo t s m a) buffer;
+}
+
+abbrev pub ruled : Table → List ℕ → List ℕ → Message → Handled
+ruled t s buffer m = ruledAs t s buffer m (ruleAnswer t s m)

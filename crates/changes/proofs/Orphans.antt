@@ -10,7 +10,7 @@ use borrow.Author.Tests.{eq-eqb}
 use Rattle.lists.specs.Count.{count, has}
 use Rattle.lists.specs.Below.{when, whole, below}
 use Rattle.lists.proofs.Count.{true-has, false-has, count-append}
-use Rattle.lists.proofs.Below.{count-when, count-none, count-below, count-at}
+use Rattle.lists.proofs.Below.{count-when, count-nowhere, count-not-when, count-not-whole, count-at}
 use Rattle.table.specs.declared.state.Place.{Place}
 use Rattle.table.specs.declared.state.Call.{Call}
 use Rattle.table.specs.declared.state.Customer.{Customer}
@@ -19,21 +19,6 @@ use Rattle.table.specs.Total.{totalOf}
 use Rattle.table.specs.Word.{isUsed}
 use Rattle.table.specs.Lists.{customerAt, Entry, idsOf, callAt, openAt, entries, Held, underCall, placeAt, heldPlace, heldIn, heldAt, withNoCall, loosePlaceAt, loosePlace, looseIn, looseAt, held}
 use Rattle.changes.specs.Connections.{isCallOf, orphan}
-
--- ---- nothing passes where no place has what passes
-
-module _ {ℓ} {A : Type ℓ} (p : A → Bool) where
-  nowhere : (f : ℕ → List A) (n : ℕ) → ((i : ℕ) → i < n → count p (f i) ≡ 0) → count p (below f n) ≡ 0
-  nowhere f zero h = count-none f p
-  nowhere f (suc n) h = omega (arith, count-below f p n, nowhere f n (λ i l. h i (omega arith)), h n (omega arith))
-
-  not-when : (b : Bool) (x : A) → p x ≡ false → count p (when b x) ≡ 0
-  not-when b x h = rw (count-when p b x, h, and-false b)
-
-  not-whole : (b : Bool) (l : List A) → (b ≡ true → count p l ≡ 0) → count p (whole b l) ≡ 0
-  unfolding whole
-  not-whole true l h = h refl
-  not-whole false l h = refl
 
 -- ---- the connections of a slot, and those of Call ID 0
 
@@ -53,11 +38,11 @@ has-call t i l u p = true-has test (entries t) (omega (arith, count-at (openAt t
 
 not-under : (l : List Entry) (c : Call) → ((p : Place) → has (isCallOf (underCall c p)) l ≡ true) → count (orphan l) (heldIn c) ≡ 0
 not-under l c h =
-    nowhere (orphan l) (heldPlace c) 4
-    (λ j b. not-when (orphan l) (placeAt c j .taken) (underCall c (placeAt c j)) (rw (h (placeAt c j)) (and-false (not (eqb (c .id .0) 0)))))
+    count-nowhere (orphan l) (heldPlace c) 4
+    (λ j b. count-not-when (orphan l) (placeAt c j .taken) (underCall c (placeAt c j)) (rw (h (placeAt c j)) (and-false (not (eqb (c .id .0) 0)))))
 
 not-loose : (l : List Entry) (c : Customer) → count (orphan l) (looseIn c) ≡ 0
-not-loose l c = nowhere (orphan l) (loosePlace c) 4 (λ j b. not-when (orphan l) (loosePlaceAt c j .taken) (withNoCall c (loosePlaceAt c j)) refl)
+not-loose l c = count-nowhere (orphan l) (loosePlace c) 4 (λ j b. count-not-when (orphan l) (loosePlaceAt c j .taken) (withNoCall c (loosePlaceAt c j)) refl)
 
 -- no connection of any table is without its call
 pub no-orphans : (t : Table) → has (orphan (entries t)) (held t) ≡ false
@@ -68,8 +53,8 @@ no-orphans t = false-has bad (held t) (count-append bad (below (heldAt t) (total
 
     under : count bad (below (heldAt t) (totalOf t)) ≡ 0
     under =
-        nowhere bad (heldAt t) (totalOf t)
-        (λ i l. not-whole bad (isUsed (t .occupied) i) (heldIn (callAt t i)) (λ u. not-under (entries t) (callAt t i) (has-call t i l u)))
+        count-nowhere bad (heldAt t) (totalOf t)
+        (λ i l. count-not-whole bad (isUsed (t .occupied) i) (heldIn (callAt t i)) (λ u. not-under (entries t) (callAt t i) (has-call t i l u)))
 
     loose : count bad (below (looseAt t) 8) ≡ 0
-    loose = nowhere bad (looseAt t) 8 (λ k l. not-whole bad (ltb k (t .listed)) (looseIn (customerAt t k)) (λ u. not-loose (entries t) (customerAt t k)))
+    loose = count-nowhere bad (looseAt t) 8 (λ k l. count-not-whole bad (ltb k (t .listed)) (looseIn (customerAt t k)) (λ u. not-loose (entries t) (customerAt t k)))

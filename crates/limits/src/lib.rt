@@ -1,12 +1,15 @@
 // The rules on the roster and on how many calls each customer has.
 ghost use mathlib.Core.Path.{_≡_};
-ghost use mathlib.Core.Bool.{_&&_, cond};
-ghost use Prim.Native.Nat.{_≤_};
+ghost use mathlib.Core.Bool.{_&&_};
+ghost use Rattle.lists.specs.Count.{has};
 ghost use Rattle.table.specs.Total.{totalOf};
-ghost use Rattle.table.specs.Lists.{Terms, termsOf, roster};
-ghost use Rattle.table.specs.Rules.{badShare, acceptable, rosterHolds, holds, sendersListed, withinLimits, shareWithinTotal};
+ghost use Rattle.table.specs.Lists.{Terms, termsOf, roster, entries};
+ghost use Rattle.table.specs.Share.{S};
+ghost use Rattle.table.specs.Rules.{badShare, acceptable, rosterHolds, overLimit, holds, sendersListed, withinLimits, shareWithinTotal};
 use lists::larger;
 use lists::one_if;
+use lists::where_so;
+use lists::widened;
 use table::state::Customer;
 use table::state::Table;
 
@@ -15,19 +18,6 @@ fn bad_share(c: Customer) -> bool
     ensures { λ r. ⌜ r ≡ badShare 64 (termsOf c) ⌝ }
 {
     (c.limit == 0) | (64 < c.limit) | (c.limit < c.guarantee)
-}
-
-fn widened(x: u8) -> usize
-    ensures { λ r. ⌜ (r ≡ x) × (r ≤ 255) ⌝ }
-{
-    x as usize
-}
-
-// A number where a test passes, 0 where it does not.
-fn where_so(b: bool, n: usize) -> usize
-    ensures { λ r. ⌜ (r ≡ cond b n 0) × (r ≤ n) ⌝ }
-{
-    if b { n } else { 0 }
 }
 
 // Good guarantees and limits, addresses listed once, and guarantees that come to no more than the total.
@@ -86,13 +76,18 @@ pub fn senders_listed(t: Table) -> bool
     !stranger
 }
 
-// No customer has more calls than its limit, and S is at most the total.
-pub fn shares_hold(t: Table) -> bool
-    ensures { λ r. ⌜ r ≡ (holds withinLimits t && holds shareWithinTotal t) ⌝ }
+// Whether a customer has more calls than its limit, and S.
+pub struct Shares {
+    pub over: bool,
+    pub sum: usize,
+}
+
+pub fn share_sums(t: Table) -> Shares
+    ensures { λ r. ⌜ (r .over ≡ has (overLimit (entries t)) (roster t)) × (r .sum ≡ S (roster t) (entries t)) ⌝ }
 {
     let listed = widened(t.listed);
     let mut over = false;
-    let mut kept: usize = 0;
+    let mut sum: usize = 0;
     let mut k: usize = 0;
     while k < 8 {
         let m = t.customers[k];
@@ -104,8 +99,16 @@ pub fn shares_hold(t: Table) -> bool
             i += 1;
         }
         over = over | ((k < listed) & (widened(m.limit) < calls));
-        kept += where_so(k < listed, larger(calls, widened(m.guarantee)));
+        sum += where_so(k < listed, larger(calls, widened(m.guarantee)));
         k += 1;
     }
-    !over & (kept <= 64)
+    Shares { over, sum }
+}
+
+// No customer has more calls than its limit, and S is at most the total.
+pub fn shares_hold(t: Table) -> bool
+    ensures { λ r. ⌜ r ≡ (holds withinLimits t && holds shareWithinTotal t) ⌝ }
+{
+    let s = share_sums(t);
+    !s.over & (s.sum <= 64)
 }

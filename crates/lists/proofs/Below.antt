@@ -7,7 +7,7 @@ use native.Mathlib.Omega.{arith}
 use mathlib.Core.Path.{_≡_, refl, sym, _∙_}
 use mathlib.Core.Logic.{⊎-elim}
 use mathlib.Core.List.{List, [], _∷_, _++_, append-nil}
-use mathlib.Core.Bool.{Bool, true, false, cond, _||_, _&&_}
+use mathlib.Core.Bool.{Bool, true, false, cond, _||_, _&&_, and-false}
 use lib.Dec.{ltb, eqb}
 use lib.ListN.{length, getD, set, length-append, length-set, List·getD-append}
 use lib.Seq.{getD-at, getD-set-same, getD-set-other, ext-getD}
@@ -139,6 +139,21 @@ count-at f p i (suc n) l =
     (λ (e : i ≡ n). rw e (omega (arith, count-below f p n)))
     (λ (b : i < n). omega (arith, count-below f p n, count-at f p i n b))
     (eq-or-lt-of-le (le-of-suc-le-suc l))
+
+-- ---- nothing passes where no place has what passes
+
+module _ {ℓ} {A : Type ℓ} (p : A → Bool) where
+  pub count-nowhere : (f : ℕ → List A) (n : ℕ) → ((i : ℕ) → i < n → count p (f i) ≡ 0) → count p (below f n) ≡ 0
+  count-nowhere f zero h = count-none f p
+  count-nowhere f (suc n) h = omega (arith, count-below f p n, count-nowhere f n (λ i l. h i (omega arith)), h n (omega arith))
+
+  pub count-not-when : (b : Bool) (x : A) → p x ≡ false → count p (when b x) ≡ 0
+  count-not-when b x h = rw (count-when p b x, h, and-false b)
+
+  pub count-not-whole : (b : Bool) (l : List A) → (b ≡ true → count p l ≡ 0) → count p (whole b l) ≡ 0
+  unfolding whole
+  count-not-whole true l h = h refl
+  count-not-whole false l h = refl
 
 -- ---- one element in each place
 

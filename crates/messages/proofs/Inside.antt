@@ -8,7 +8,6 @@ use mathlib.Core.Bool.{Bool, true, false, cond, not, _||_}
 use lib.Dec.{ltb, eqb}
 use borrow.Author.Tests.{eqb-false, ltb-false, not-false}
 use Rattle.objects.specs.Forms.{nameLength}
-use Rattle.objects.specs.Part.{Within}
 use Rattle.objects.specs.Placed.{Placed}
 use Rattle.objects.specs.Walk.{walkOf}
 use Rattle.objects.proofs.Placed.{walk-placed}
@@ -20,42 +19,16 @@ use Rattle.messages.specs.declared.header.Kind.{Kind}
 use Rattle.messages.specs.declared.header.Kind.the-variants.{Path, PathTear, Notify}
 use Rattle.messages.specs.declared.header.Header.{Header}
 use Rattle.messages.specs.declared.header.Header.the-variants.{Bad, Good}
-use Rattle.messages.specs.declared.message.CallRequest.{CallRequest}
-use Rattle.messages.specs.declared.message.Connection.{Connection}
 use Rattle.messages.specs.declared.message.Message.{Message}
-use Rattle.messages.specs.declared.message.Message.the-variants.{Open, Close, Add, Drop}
 use Rattle.messages.specs.declared.read.Reading.{Reading}
 use Rattle.messages.specs.declared.read.Reading.the-variants.{Refused, Unfit, Read}
 use Rattle.messages.specs.Header.{headerOf}
 use Rattle.messages.specs.Status.{bitSet, deleteBit}
 use Rattle.messages.specs.Counts.{notifyComplete, pathComplete}
 use Rattle.messages.specs.Fields.{callAt, connectionAt, requestAt}
+use Rattle.messages.specs.Inside.{CallInside, ConnectionInside, Inside}
 use Rattle.messages.specs.Read.{statusAt, isCallRequest, badIdentity, notifyOf, pathOf, objectsRead, walkedRead, headerRead, readOf}
 use Rattle.messages.proofs.Bounds.{path-bounds, notify-bounds}
-
-pub record CallInside (s : List ℕ) (r : CallRequest) : Type 0 where
-  pub session : Within s (r .session)
-  pub template : Within s (r .template)
-  pub attribute : Within s (r .attribute)
-  pub name : Within s (r .name)
-  pub sessionSize : r .session .size ≡ 16
-  pub templateSize : r .template .size ≡ 12
-  pub attributeSize : r .attribute .size ≤ 40
-  pub nameSome : 0 < r .name .size
-  pub nameMost : r .name .size ≤ 32
-  pub callSome : 0 < r .call .0
-
-pub record ConnectionInside (s : List ℕ) (c : Connection) : Type 0 where
-  pub session : Within s (c .session)
-  pub template : Within s (c .template)
-  pub sessionSize : c .session .size ≡ 16
-  pub templateSize : c .template .size ≡ 12
-
-abbrev pub Inside : List ℕ → Message → Type 0
-Inside s (Open r) = CallInside s r
-Inside s (Close r) = CallInside s r
-Inside s (Add c) = ConnectionInside s c
-Inside s (Drop c) = ConnectionInside s c
 
 -- the promise of a reading: none where nothing was read
 Promised : List ℕ → Reading → Type 0

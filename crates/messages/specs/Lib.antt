@@ -3,3 +3,4 @@ pub mod Status
 pub mod Counts
 pub mod Fields
 pub mod Read
+pub mod Inside

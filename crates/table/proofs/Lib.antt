@@ -1,3 +1,4 @@
 pub mod Slots
 pub mod Ones
 pub mod Fresh
+pub mod SameBytes

@@ -1,5 +1,6 @@
 // The table's layout.
 ghost use mathlib.Core.Path.{_≡_};
+ghost use Prim.Native.Nat.{min};
 ghost use Rattle.table.specs.Zeros.{noPlace, noCall, noLoosePlace, noCustomer, emptyTable};
 use objects::fields::CallId;
 use objects::fields::LspId;
@@ -7,6 +8,7 @@ use objects::fields::TunnelId;
 
 // A connection under a call: end point and sender are the call's. A place has a mark of its own, since
 // a connection can be all zeros.
+#[repr(C)]
 pub struct Place {
     pub taken: bool,
     pub tunnel: TunnelId,
@@ -15,6 +17,7 @@ pub struct Place {
 }
 
 // A call, with its long Call ID in the first `size` bytes of `name`.
+#[repr(C)]
 pub struct Call {
     pub endpoint: u32,
     pub sender: u32,
@@ -25,6 +28,7 @@ pub struct Call {
 }
 
 // A connection of Call ID 0: its sender is the customer.
+#[repr(C)]
 pub struct LoosePlace {
     pub taken: bool,
     pub endpoint: u32,
@@ -33,6 +37,7 @@ pub struct LoosePlace {
     pub lsp: LspId,
 }
 
+#[repr(C)]
 pub struct Customer {
     pub address: u32,
     pub guarantee: u8,
@@ -42,6 +47,7 @@ pub struct Customer {
 
 // The roster as read (own address, own epoch, the first `listed` customers), the next own identifier, and
 // the calls: slot i is used where bit i of `occupied` is set.
+#[repr(C)]
 pub struct Table {
     pub address: u32,
     pub epoch: u32,
@@ -116,4 +122,12 @@ pub fn empty_table() -> Table
         customers,
         calls,
     }
+}
+
+// How many of a name's 32 bytes count.
+pub fn name_size(size: u8) -> usize
+    ensures { λ r. ⌜ r ≡ min size 32 ⌝ }
+{
+    let n = size as usize;
+    if n < 32 { n } else { 32 }
 }

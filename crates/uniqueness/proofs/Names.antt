@@ -1,28 +1,16 @@
 -- Two names, byte by byte: each is the first bytes of an array of 32.
 -- Assumes nothing.
-use Prim.Native.Nat.{ℕ, suc, _+_, _<_, _≤_, min}
-use native.Mathlib.Numerals.{add-one}
+use Prim.Native.Nat.{ℕ, _+_, _<_, _≤_, min}
 use native.Mathlib.Omega.{arith}
-use mathlib.Core.Path.{_≡_, refl, ap, ap₂, _∙_}
-use mathlib.Core.List.{List, [], _∷_}
-use mathlib.Core.Bool.{Bool, true, false, _&&_, and-false}
+use mathlib.Core.Path.{_≡_, ap₂, _∙_}
+use mathlib.Core.List.{List}
+use mathlib.Core.Bool.{Bool, true, false, _&&_}
 use lib.Dec.{eqb}
 use lib.ListN.{length, take, drop, getD, length-take, drop-of-length-le}
-use lib.Seq.{drop-cons, getD-take}
+use lib.Seq.{getD-take}
 use borrow.Author.Tests.{eq-eqb, ne-eqb}
 use Rattle.table.specs.Rules.{sameBytes}
-
-other-sizes : (a b : List ℕ) → (length a ≡ length b → ⊥) → sameBytes a b ≡ false
-unfolding sameBytes
-other-sizes [] [] n = absurd (n refl)
-other-sizes [] (y ∷ b) n = refl
-other-sizes (x ∷ a) [] n = refl
-other-sizes (x ∷ a) (y ∷ b) n = rw (other-sizes a b (λ e. n (ap suc e))) (and-false (eqb x y))
-
-same-step : (k : ℕ) (a b : List ℕ) → k < length a → k < length b
-    → sameBytes (drop k a) (drop k b) ≡ (eqb (getD a k 0) (getD b k 0) && sameBytes (drop (k + 1) a) (drop (k + 1) b))
-unfolding sameBytes
-same-step k a b p q = rw (add-one, drop-cons a k 0, drop-cons b k 0)
+use Rattle.table.proofs.SameBytes.{other-sizes, same-step}
 
 -- the first `s` bytes of `a`, the first `t` of `b`
 module _ (a b : List ℕ) (s t : ℕ) (long : length a ≡ 32) (wide : length b ≡ 32) where

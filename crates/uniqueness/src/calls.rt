@@ -1,7 +1,6 @@
 // The open calls against each other.
 ghost use mathlib.Core.Path.{_≡_};
 ghost use mathlib.Core.Bool.{_&&_, _||_};
-ghost use Prim.Native.Nat.{min};
 ghost use lib.ListN.{take};
 ghost use Rattle.lists.specs.Count.{noTwo};
 ghost use Rattle.lists.specs.Below.{below};
@@ -13,14 +12,7 @@ use crate::places::places_meet;
 use crate::places::places_once;
 use table::state::Call;
 use table::state::Table;
-
-// How many of a name's 32 bytes count.
-fn name_size(size: u8) -> usize
-    ensures { λ r. ⌜ r ≡ min size 32 ⌝ }
-{
-    let n = size as usize;
-    if n < 32 { n } else { 32 }
-}
+use table::state::name_size;
 
 // Two calls have the same long Call ID. Names are compared only where they are as long.
 fn same_name(c: Call, d: Call) -> bool

@@ -1,3 +1,4 @@
+-- `row_of`: each case has its row.
 use mathlib.Core.Path.{sym, ap, _∙_}
 use Rattle.answers.specs.Answers.{silent, rowOf}
 use borrow.Author.Needs.{needs}

@@ -1,0 +1,33 @@
+-- What a message that was read has: its parts lie within it, with the sizes that a reply relies on, and a request names a call.
+use Prim.Native.Nat.{ℕ, _≤_, _<_}
+use mathlib.Core.Path.{_≡_}
+use mathlib.Core.List.{List}
+use Rattle.objects.specs.Part.{Within}
+use Rattle.messages.specs.declared.message.CallRequest.{CallRequest}
+use Rattle.messages.specs.declared.message.Connection.{Connection}
+use Rattle.messages.specs.declared.message.Message.{Message}
+use Rattle.messages.specs.declared.message.Message.the-variants.{Open, Close, Add, Drop}
+
+pub record CallInside (s : List ℕ) (r : CallRequest) : Type 0 where
+  pub session : Within s (r .session)
+  pub template : Within s (r .template)
+  pub attribute : Within s (r .attribute)
+  pub name : Within s (r .name)
+  pub sessionSize : r .session .size ≡ 16
+  pub templateSize : r .template .size ≡ 12
+  pub attributeSize : r .attribute .size ≤ 40
+  pub nameSome : 0 < r .name .size
+  pub nameMost : r .name .size ≤ 32
+  pub callSome : 0 < r .call .0
+
+pub record ConnectionInside (s : List ℕ) (c : Connection) : Type 0 where
+  pub session : Within s (c .session)
+  pub template : Within s (c .template)
+  pub sessionSize : c .session .size ≡ 16
+  pub templateSize : c .template .size ≡ 12
+
+abbrev pub Inside : List ℕ → Message → Type 0
+Inside s (Open r) = CallInside s r
+Inside s (Close r) = CallInside s r
+Inside s (Add c) = ConnectionInside s c
+Inside s (Drop c) = ConnectionInside s c

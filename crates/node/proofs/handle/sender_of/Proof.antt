@@ -1,0 +1,43 @@
+-- `sender_of`: by the message's kind.
+use borrow.Author.Needs.{needs}
+use Rattle.node.proofs.handle.sender_of.Statement.{statement}
+use Rattle.node.proofs.handle.sender_of.Tie as tie
+use Rattle.node.proofs.handle.sender_of.Reads as reads
+use Rattle.node.proofs.handle.sender_of.Lts as lts
+
+enum-known-m : tie.Need-enum-known-m
+enum-known-m c = search needs
+
+enum-known-m-2 : tie.Need-enum-known-m-2
+enum-known-m-2 c = search needs
+
+enum-known-m-3 : tie.Need-enum-known-m-3
+enum-known-m-3 c = search needs
+
+enum-known-m-4 : tie.Need-enum-known-m-4
+enum-known-m-4 c = search needs
+
+returns : tie.Need-returns
+returns c = rw (c .before .m .given .1)
+
+returns-2 : tie.Need-returns-2
+returns-2 c = rw (c .before .m2 .given .1)
+
+returns-3 : tie.Need-returns-3
+returns-3 c = rw (c .before .m3 .given .1)
+
+returns-4 : tie.Need-returns-4
+returns-4 c = rw (c .before .m4 .given .1)
+
+pub sender-of-spec : {M : Type 1} → statement M
+sender-of-spec =
+    tie.close
+    (tie.spec
+    enum-known-m
+    enum-known-m-2
+    enum-known-m-3
+    enum-known-m-4
+    returns
+    returns-2
+    returns-3
+    returns-4)

@@ -1,0 +1,24 @@
+-- `send_path_err`: what `put_path_err` writes, with the error that the answer has.
+use borrow.Author.Needs.{needs}
+use Rattle.node.proofs.sending.send_path_err.Statement.{statement}
+use Rattle.node.proofs.sending.send_path_err.Tie as tie
+use Rattle.node.proofs.sending.send_path_err.Reads as reads
+use Rattle.node.proofs.sending.send_path_err.Lts as lts
+use Rattle.node.proofs.sending.error_by.Reads as error-by-reads
+use Rattle.replies.proofs.messages.put_path_err.Reads as put-path-err-reads
+
+error-by-requires : tie.Need-error-by-requires
+error-by-requires c κs = search needs
+
+put-path-err-requires : tie.Need-put-path-err-requires
+put-path-err-requires c κs = search needs
+
+same-length : tie.Need-same-length
+same-length c = search needs
+
+returns : tie.Need-returns
+returns c = rw (c .before .before .before .before .before .before .error-by .ensures) at (c .before .before .put-path-err .ensures)
+
+pub send-path-err-spec : {M : Type 1} → statement M
+send-path-err-spec =
+    tie.close (tie.spec error-by-requires put-path-err-requires same-length returns)

@@ -1,0 +1,94 @@
+// One message of any bytes.
+ghost use mathlib.Core.Path.{_≡_};
+ghost use mathlib.Core.Bool.{true};
+ghost use Prim.Native.Nat.{_≤_};
+ghost use lib.ListN.{length};
+ghost use Rattle.messages.specs.Inside.{Inside};
+ghost use Rattle.table.specs.Lists.{roster};
+ghost use Rattle.table.specs.Share.{listed};
+ghost use Rattle.table.specs.Rules.{rulesHold};
+ghost use Rattle.calls.specs.Form.{senderOf};
+ghost use Rattle.calls.specs.Handling.{ruled, handled};
+use crate::connections::add_connection;
+use crate::connections::drop_connection;
+use crate::outcome::Outcome;
+use crate::outcome::unanswered;
+use crate::requests::close_call;
+use crate::requests::open_call;
+use answers::answer::Answer;
+use lookups::share::listing_of;
+use messages::message::Message;
+use messages::read::Reading;
+use messages::read::read;
+use rules::rules_hold;
+use table::state::Table;
+
+fn sender_of(m: Message) -> u32
+    ensures { λ r. ⌜ r ≡ senderOf m ⌝ }
+{
+    match m {
+        Message::Open(q) => q.sender,
+        Message::Close(q) => q.sender,
+        Message::Add(c) => c.sender,
+        Message::Drop(c) => c.sender,
+    }
+}
+
+// A message of no fault, by its kind.
+fn handle_message(t: Table, msg: &[u8], m: Message, reply: &mut [u8]) -> Outcome
+    requires { ⌜ (rulesHold t ≡ true) × (listed (roster t) (senderOf m) ≡ true) × Inside (now msg) m × (128 ≤ length (now reply)) ⌝ }
+    ensures { λ r. ⌜ record { answer = r .answer; length = r .length; table = r .table; buffer = now (reply .exit) } ≡ ruled t (now (msg .entry)) (now (reply .entry)) m ⌝ }
+{
+    match m {
+        Message::Open(q) => open_call(t, msg, q, reply),
+        Message::Close(q) => close_call(t, msg, q, reply),
+        Message::Add(c) => add_connection(t, msg, c, reply),
+        Message::Drop(c) => drop_connection(t, c, reply),
+    }
+}
+
+// The tests from 2 on: for a table that keeps the rules, as a Bundle's messages will find it.
+fn handle_checked(t: Table, msg: &[u8], reply: &mut [u8]) -> Outcome
+    requires { ⌜ rulesHold t ≡ true ⌝ }
+    ensures { λ r. ⌜ record { answer = r .answer; length = r .length; table = r .table; buffer = now (reply .exit) } ≡ handled t (now (msg .entry)) (now (reply .entry)) ⌝ }
+{
+    if reply.len() < 128 {
+        return unanswered(t, Answer::BufferTooSmall);
+    }
+    let x = read(msg);
+    match x {
+        Reading::Refused {
+            fault,
+            offset,
+            headers,
+        } => unanswered(t, Answer::Malformed(fault)),
+        Reading::Unfit {
+            fault,
+            sender,
+            headers,
+        } => {
+            let known = listing_of(t, sender);
+            if known.known {
+                return unanswered(t, Answer::Malformed(fault));
+            }
+            unanswered(t, Answer::SenderNotListed)
+        }
+        Reading::Read { message, headers } => {
+            let known = listing_of(t, sender_of(message));
+            if known.known {
+                return handle_message(t, msg, message, reply);
+            }
+            unanswered(t, Answer::SenderNotListed)
+        }
+    }
+}
+
+// Handles a message: any table, any bytes, any buffer.
+pub fn handle(t: Table, msg: &[u8], reply: &mut [u8]) -> Outcome
+    ensures { λ r. ⌜ record { answer = r .answer; length = r .length; table = r .table; buffer = now (reply .exit) } ≡ handled t (now (msg .entry)) (now (reply .entry)) ⌝ }
+{
+    if rules_hold(t) {
+        return handle_checked(t, msg, reply);
+    }
+    unanswered(t, Answer::TableBroken)
+}

@@ -1,0 +1,125 @@
+// The tap: frames on standard input, a 16-bit length and that many bytes each, the roster first and then messages. It prints the roster's
+// answer, and for each message its number, the answer and the reply's length. A cut frame prints `cut` and ends it.
+ghost use Prim.Native.Nat.{_-_};
+use answers::answer::number;
+use libc::STDIN_FILENO;
+use libc::STDOUT_FILENO;
+use node::handle::handle;
+use numbers::big_endian::get16;
+use rosters::read_roster;
+use table::answer::roster_number;
+use table::state::Table;
+
+enum Frame {
+    End,
+    Cut,
+    Whole(usize),
+}
+
+// The next frame, put at the front of the space, which has room for the largest.
+fn next_frame(space: &mut [u8]) -> Frame {
+    let mut head = [0u8; 2];
+    let got = io::read_full(STDIN_FILENO, &mut head);
+    if got == 0 {
+        return Frame::End;
+    }
+    if got < 2 {
+        return Frame::Cut;
+    }
+    let size = get16(&head, 0) as usize;
+    if space.len() < size {
+        return Frame::Cut;
+    }
+    if io::read_full(STDIN_FILENO, &mut space[..size]) < size {
+        return Frame::Cut;
+    }
+    Frame::Whole(size)
+}
+
+fn print_cut() {
+    io::write_all(STDOUT_FILENO, b"cut\n");
+}
+
+fn print_number(label: &[u8], n: u64) {
+    io::write_all(STDOUT_FILENO, label);
+    io::print_decimal(STDOUT_FILENO, n);
+}
+
+// The table after a message, and whether to go on.
+struct Step {
+    go: bool,
+    table: Table,
+}
+
+// The message in the first `size` bytes of the space is the n-th.
+fn answer_message(t: Table, n: u64, space: &[u8], size: usize) -> Table {
+    if space.len() < size {
+        return t;
+    }
+    let mut reply = [0u8; 256];
+    let r = handle(t, &space[..size], &mut reply);
+    let answer = r.answer;
+    let table = r.table;
+    io::print_decimal(STDOUT_FILENO, n);
+    print_number(b" ", number(answer) as u64);
+    print_number(b" ", r.length as u64);
+    io::write_all(STDOUT_FILENO, b"\n");
+    table
+}
+
+fn answer_next(t: Table, n: u64, space: &mut [u8]) -> Step {
+    let f = next_frame(space);
+    match f {
+        Frame::End => Step {
+            go: false,
+            table: t,
+        },
+        Frame::Cut => {
+            print_cut();
+            Step {
+                go: false,
+                table: t,
+            }
+        }
+        Frame::Whole(size) => {
+            let table = answer_message(t, n, space, size);
+            Step { go: true, table }
+        }
+    }
+}
+
+// A proved loop has to end, and nothing says that the input does: it counts its messages, and no run has that many.
+fn answer_all(t: Table, space: &mut [u8]) {
+    let mut u = t;
+    let mut n: u64 = 0;
+    while n < u64::MAX {
+        n += 1;
+        let s = answer_next(u, n, space);
+        if !s.go {
+            return;
+        }
+        u = s.table;
+    }
+}
+
+fn answer_roster(space: &mut [u8], size: usize) {
+    if space.len() < size {
+        return;
+    }
+    let r = read_roster(&space[..size]);
+    let answer = r.answer;
+    let table = r.table;
+    print_number(b"roster ", roster_number(answer) as u64);
+    io::write_all(STDOUT_FILENO, b"\n");
+    answer_all(table, space);
+}
+
+fn main() {
+    let mut space = io::large_buffer();
+    let f = next_frame(&mut space);
+    match f {
+        Frame::End => {}
+        Frame::Cut => print_cut(),
+        Frame::Whole(size) => answer_roster(&mut space, size),
+    }
+}
