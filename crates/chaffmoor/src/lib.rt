@@ -7,7 +7,6 @@ ghost use Rattle.calls.specs.Handling.{handled};
 use answers::answer::number;
 use node::handle::handle;
 use rosters::read_roster;
-use rules::rules_hold;
 use table::answer::roster_number;
 use table::state::Table;
 

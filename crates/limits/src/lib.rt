@@ -3,7 +3,7 @@ ghost use mathlib.Core.Path.{_≡_};
 ghost use mathlib.Core.Bool.{_&&_};
 ghost use Rattle.lists.specs.Count.{has};
 ghost use Rattle.table.specs.Total.{totalOf};
-ghost use Rattle.table.specs.Lists.{Terms, termsOf, roster, entries};
+ghost use Rattle.table.specs.Lists.{termsOf, roster, entries};
 ghost use Rattle.table.specs.Share.{S};
 ghost use Rattle.table.specs.Rules.{badShare, acceptable, rosterHolds, overLimit, holds, sendersListed, withinLimits, shareWithinTotal};
 use lists::larger;

@@ -1,6 +1,5 @@
 // The roster beside a request: whether its sender is listed, and whether the sender's share is used up.
 ghost use mathlib.Core.Path.{_≡_};
-ghost use Prim.Native.Nat.{_≤_};
 ghost use Rattle.table.specs.Total.{totalOf};
 ghost use Rattle.table.specs.Lists.{roster, entries};
 ghost use Rattle.table.specs.Share.{listed, guaranteeOf, limitOf, callsOf};
