@@ -9,6 +9,7 @@ use borrow.Author.Tests.{eqb-true, eq-eqb}
 use Rattle.lists.proofs.Tests.{both}
 use Rattle.table.specs.Lists.{Ids, Held}
 use Rattle.table.specs.Rules.{sameBytes, samePair, sameShort, sameLong, sameLsp}
+use Rattle.table.proofs.SameBytes.{same-bytes}
 
 -- ---- to itself
 
@@ -33,16 +34,6 @@ unfolding sameLsp
 lsp-self x = rw (self (x .lsp .endpoint), self (x .lsp .sender), self (x .lsp .tunnel), self (x .lsp .extended), self (x .lsp .lsp))
 
 -- ---- to every third
-
-pub same-bytes : (x y : List ℕ) → sameBytes x y ≡ true → x ≡ y
-unfolding sameBytes
-same-bytes [] [] h = refl
-same-bytes [] (b ∷ y) h = cc
-same-bytes (a ∷ x) [] h = cc
-same-bytes (a ∷ x) (b ∷ y) h =
-    let k = both (eqb a b) (sameBytes x y) h in
-    let i = same-bytes x y (k .1) in
-    let j = eqb-true a b (k .0) in cc
 
 -- a test of one call is that of another where they are the same in what it looks at
 pub short-alike : (c d x : Ids) → sameShort c d ≡ true → sameShort c x ≡ sameShort d x

@@ -1,51 +1,39 @@
--- The quick comparison of pairs: fields copied out one after another, and no conflict where no earlier slot has the same pair.
+-- The quick test before calls are compared: every earlier slot's marks are noted, and a call with no mark among them is in conflict with none.
 -- Assumes nothing.
 use Prim.Native.Nat.{ℕ, _+_, _<_}
 use native.Mathlib.Nat.{eq-or-lt-of-le, le-of-suc-le-suc}
-use native.Mathlib.Omega.{arith}
 use native.Mathlib.Numerals.{add-one}
 use mathlib.Core.Path.{_≡_, refl, sym, _∙_}
 use mathlib.Core.Logic.{⊎-elim}
 use mathlib.Core.List.{List}
-use mathlib.Core.Bool.{Bool, true, false, not, _&&_, _||_, and-false}
-use lib.Dec.{eqb}
-use lib.ListN.{length, getD, set}
-use lib.Seq.{getD-set-same, getD-set-other}
-use borrow.Author.Tests.{eq-eqb}
+use mathlib.Core.Bool.{Bool, true, false, not, _&&_, and-false}
+use lib.ListN.{length}
+use Rattle.lists.specs.Count.{has}
 use Rattle.lists.specs.Below.{everyBelow}
-use Rattle.lists.proofs.Below.{every-turn, every-within}
+use Rattle.lists.proofs.Below.{every-within}
 use Rattle.table.specs.declared.state.Call.{Call}
-use Rattle.uniqueness.proofs.Held.{conflict, two-pairs}
+use Rattle.marks.specs.Marks.{marksOf, isNoted, noted}
+use Rattle.marks.proofs.Noted.{unnoted, noted-whole, whole-after}
+use Rattle.marks.proofs.Shared.{nothing-shared, marks-inside}
+use Rattle.uniqueness.proofs.Held.{conflict}
 
--- the first `n` elements are those of `f`
-abbrev pub filled : List ℕ → (ℕ → ℕ) → ℕ → Type 0
-filled l f n = (j : ℕ) → j < n → getD l j 0 ≡ f j
+-- the marks of the first `n` calls are noted
+abbrev pub Noted : List ℕ → (ℕ → Call) → ℕ → Type 0
+Noted l x n = (j : ℕ) → j < n → has (unnoted l) (marksOf (x j)) ≡ false
 
-pub fill-turn : (l : List ℕ) (f : ℕ → ℕ) (n v : ℕ) → n < length l → v ≡ f n → filled l f n → filled (set l n v) f (n + 1)
-fill-turn l f n v h e k j b =
+pub note-turn : (l s : List ℕ) (x : ℕ → Call) (n : ℕ) → length l ≡ 24576 → s ≡ noted l (marksOf (x n)) → Noted l x n → Noted s x (n + 1)
+note-turn l s x n w e k j b =
     ⊎-elim
-    (λ (q : j ≡ n). rw q (getD-set-same l n v 0 h ∙ e))
-    (λ (q : j < n). getD-set-other l n j v 0 (λ z. omega arith) ∙ k j q)
+    (λ (q : j ≡ n). rw (q, e) (noted-whole l (marksOf (x n)) (rw w (marks-inside (x n)))))
+    (λ (q : j < n). rw e (whole-after l (marksOf (x n)) (marksOf (x j)) (k j q)))
     (eq-or-lt-of-le (le-of-suc-le-suc (rw add-one at b)))
 
--- a turn of the quick loop: a slot that is not near passes
-pub near-turn : (p : ℕ → Bool) (k : ℕ) (near s : Bool) → (near ≡ false → everyBelow p k ≡ true) → (s ≡ false → p k ≡ true) → (near || s) ≡ false
-    → everyBelow p (k + 1) ≡ true
-near-turn p k true s h q z = cc
-near-turn p k false s h q z = sym (every-turn p k true true (sym (h refl)) (sym (q z)))
+-- a call with no mark among those noted passes beside each earlier one
+pub not-near : (l : List ℕ) (x : ℕ → Call) (u : ℕ → Bool) (i : ℕ) → Noted l x i → has (isNoted l) (marksOf (x i)) ≡ false
+    → everyBelow (λ j. not (u j && (u i && conflict (x j) (x i)))) i ≡ true
+not-near l x u i k f = every-within _ i (λ j b. rw (nothing-shared l (x j) (x i) (k j b) f, and-false (u i), and-false (u j)))
 
--- calls of two pairs, whether their slots are used or not
-pub not-near : (c d : Call) (e s : ℕ) (u v : Bool) → e ≡ c .endpoint → s ≡ c .sender → (eqb e (d .endpoint) && eqb s (d .sender)) ≡ false
-    → not (u && (v && conflict c d)) ≡ true
-not-near c d e s u v f g z =
-    rw (two-pairs c d (λ a b. by _ _ (eq-eqb e (d .endpoint) (f ∙ a)) (eq-eqb s (d .sender) (g ∙ b)) z), and-false v, and-false u)
-  where
-    by : (a b : Bool) → a ≡ true → b ≡ true → (a && b) ≡ false → ⊥
-    by a b p q z =
-        let n : _≡_ {A = ℕ} 0 1 = cc in
-        omega arith
-
--- where the quick loop has found nothing, or the slot is free, every earlier slot passes
+-- where the quick test has found nothing, or the slot is free, every earlier slot passes
 pub passed : (u : ℕ → Bool) (r : ℕ → Bool) (i : ℕ) (near : Bool)
     → (near ≡ false → everyBelow (λ j. not (u j && (u i && r j))) i ≡ true) → (u i && near) ≡ false
     → everyBelow (λ j. not (u j && (u i && r j))) i ≡ true

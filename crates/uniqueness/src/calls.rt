@@ -10,6 +10,7 @@ ghost use Rattle.table.specs.Lists.{idsOf, heldIn, heldAt};
 ghost use Rattle.table.specs.Rules.{sameBytes, sameShort, sameLong, sameLsp, holds, shortIdsOnce, longIdsOnce};
 use crate::places::places_meet;
 use crate::places::places_once;
+use marks::calls::note_call;
 use table::state::Call;
 use table::state::Table;
 use table::state::name_size;
@@ -51,30 +52,15 @@ fn in_conflict(c: Call, d: Call) -> bool
 pub fn calls_apart(t: Table) -> bool
     ensures { λ r. ⌜ r ≡ (holds shortIdsOnce t && holds longIdsOnce t && noTwo sameLsp (below (heldAt t) (totalOf t))) ⌝ }
 {
-    // The pairs beside each other, so that the quick comparison reads them alone.
-    let mut endpoints: [u32; 64] = [0; 64];
-    let mut senders: [u32; 64] = [0; 64];
-    let mut n: usize = 0;
-    while n < 64 {
-        endpoints[n] = t.calls[n].endpoint;
-        senders[n] = t.calls[n].sender;
-        n += 1;
-    }
+    let mut seen: [u8; 24576] = [0; 24576];
     let mut apart = true;
     let mut i: usize = 0;
     while i < 64 {
         let d = t.calls[i];
         let used = (t.occupied >> i) % 2 == 1;
         let places = d.places;
-        // Calls of two pairs are never in conflict. No early exit: then the compiler compares several slots at a time.
-        let endpoint = d.endpoint;
-        let sender = d.sender;
-        let mut near = false;
-        let mut earlier: usize = 0;
-        while earlier < i {
-            near = near | ((endpoints[earlier] == endpoint) & (senders[earlier] == sender));
-            earlier += 1;
-        }
+        // Only a call that can share something with an earlier one is compared with them.
+        let near = note_call(&mut seen, d);
         let mut j: usize = if used & near { 0 } else { i };
         while j < i {
             let c = t.calls[j];

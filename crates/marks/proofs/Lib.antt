@@ -1,0 +1,3 @@
+pub mod Mix
+pub mod Noted
+pub mod Shared
