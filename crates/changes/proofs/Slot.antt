@@ -3,17 +3,16 @@
 use Prim.Native.Nat.{ℕ, _+_, _^_, _≤_, _<_}
 use native.Mathlib.Omega.{arith}
 use mathlib.Core.Path.{_≡_, refl, sym, ap, _∙_}
-use mathlib.Core.List.{List}
 use mathlib.Core.Bool.{Bool, true, false, cond, _&&_}
 use lib.Dec.{eqb}
 use lib.ListN.{length, length-set}
 use lib.Seq.{getD-set-same, getD-set-other}
 use borrow.Author.Tests.{eqb-true, eqb-false}
 use Rattle.lists.specs.Count.{bit, count}
-use Rattle.lists.specs.Below.{whole, below}
+use Rattle.lists.specs.Below.{below}
 use Rattle.lists.proofs.Tests.{both}
 use Rattle.lists.proofs.Count.{count-append}
-use Rattle.lists.proofs.Below.{count-when, has-when, below-one}
+use Rattle.lists.proofs.Below.{count-when, count-whole, has-when, below-one}
 use Rattle.lists.proofs.Search.{place-found}
 use Rattle.table.specs.declared.state.Call.{Call}
 use Rattle.table.specs.declared.state.Table.{Table}
@@ -24,11 +23,6 @@ use Rattle.table.specs.Lists.{Entry, callAt, idsOf, openAt, entries, Held, held
 use Rattle.table.specs.Rules.{namesWhole, callTidy, callClear, slotTidy}
 use Rattle.changes.specs.Shape.{Shape}
 use Rattle.changes.specs.Calls.{withSlot, slotOf}
-
-pub count-whole {ℓ} : {A : Type ℓ} (p : A → Bool) (b : Bool) (l : List A) → count p (whole b l) ≡ cond b (count p l) 0
-unfolding whole
-count-whole p true l = refl
-count-whole p false l = refl
 
 -- where an open call passes a test, the slot found is used by one that does
 pub found-slot : (t : Table) (p : Entry → Bool) → 0 < count p (entries t)

@@ -2,13 +2,15 @@
 -- Assumes nothing.
 use Prim.Native.Nat.{ℕ, _<_}
 use native.Mathlib.Omega.{arith}
-use mathlib.Core.Path.{_≡_, refl}
+use mathlib.Core.Path.{_≡_}
 use mathlib.Core.Bool.{Bool, true, false, cond}
 use Rattle.lists.specs.Below.{below, firstBelow}
 
-pub first-of-four : (p : ℕ → Bool) → firstBelow p 4 ≡ cond (p 0) 0 (cond (p 1) 1 (cond (p 2) 2 (cond (p 3) 3 0)))
+-- the first of four places, by the test of each
+pub four-searched : (p : ℕ → Bool) (a b c d : Bool) (r : ℕ) → a ≡ p 0 → b ≡ p 1 → c ≡ p 2 → d ≡ p 3
+    → (r ≡ cond a 0 (cond b 1 (cond c 2 (cond d 3 0)))) × (r < 4) → (r ≡ firstBelow p 4) × (r < 4)
 unfolding firstBelow below
-first-of-four p = refl
+four-searched p a b c d r e f g h k = (rw (← e, ← f, ← g, ← h) (k .0), k .1)
 
 -- what a turn chooses stays below a bound
 pub turn-below : (u s : Bool) (n i m : ℕ) → n < m → i < m → cond u n (cond s i 0) < m

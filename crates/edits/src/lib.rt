@@ -1,4 +1,5 @@
 // The changes that an answer makes to the table.
+mod four;
 pub mod loose;
 pub mod slots;
 pub mod under;

@@ -7,6 +7,7 @@ ghost use Rattle.table.specs.Lists.{withNoCall};
 ghost use Rattle.table.specs.Rules.{sameLsp};
 ghost use Rattle.changes.specs.Connections.{withCustomer, withLoosePlace, loosePlaceFor, freeLoosePlace, addedLoose, loosePlaceWith, removedLoose, customerOf};
 ghost use Rattle.calls.specs.PathRules.{heldBy};
+use crate::four::first_of_four;
 use lists::chosen;
 use lists::widened;
 use messages::message::Connection;
@@ -38,22 +39,10 @@ fn free_loose_place(m: Customer) -> usize
     ensures { λ r. ⌜ (r ≡ freeLoosePlace m) × (r < 4) ⌝ }
 {
     let p = m.places[0];
-    if !p.taken {
-        return 0;
-    }
     let q = m.places[1];
-    if !q.taken {
-        return 1;
-    }
     let r = m.places[2];
-    if !r.taken {
-        return 2;
-    }
     let s = m.places[3];
-    if !s.taken {
-        return 3;
-    }
-    0
+    first_of_four(!p.taken, !q.taken, !r.taken, !s.taken)
 }
 
 fn holds_loose(m: Customer, p: LoosePlace, x: Connection) -> bool
@@ -72,22 +61,15 @@ fn loose_place_with(m: Customer, x: Connection) -> usize
     ensures { λ r. ⌜ (r ≡ loosePlaceWith m (heldBy x)) × (r < 4) ⌝ }
 {
     let p = m.places[0];
-    if holds_loose(m, p, x) {
-        return 0;
-    }
     let q = m.places[1];
-    if holds_loose(m, q, x) {
-        return 1;
-    }
     let r = m.places[2];
-    if holds_loose(m, r, x) {
-        return 2;
-    }
     let s = m.places[3];
-    if holds_loose(m, s, x) {
-        return 3;
-    }
-    0
+    first_of_four(
+        holds_loose(m, p, x),
+        holds_loose(m, q, x),
+        holds_loose(m, r, x),
+        holds_loose(m, s, x),
+    )
 }
 
 fn with_loose_place(m: Customer, j: usize, p: LoosePlace) -> Customer

@@ -7,6 +7,7 @@ ghost use Rattle.table.specs.Lists.{underCall};
 ghost use Rattle.table.specs.Rules.{sameLsp};
 ghost use Rattle.changes.specs.Connections.{withPlace, placeFor, freePlace, addedUnder, placeWith, removedUnder};
 ghost use Rattle.calls.specs.PathRules.{heldBy};
+use crate::four::first_of_four;
 use crate::slots::with_slot;
 use messages::message::Connection;
 use table::state::Call;
@@ -19,22 +20,10 @@ fn free_place(c: Call) -> usize
     ensures { λ r. ⌜ (r ≡ freePlace c) × (r < 4) ⌝ }
 {
     let p = c.places[0];
-    if !p.taken {
-        return 0;
-    }
     let q = c.places[1];
-    if !q.taken {
-        return 1;
-    }
     let r = c.places[2];
-    if !r.taken {
-        return 2;
-    }
     let s = c.places[3];
-    if !s.taken {
-        return 3;
-    }
-    0
+    first_of_four(!p.taken, !q.taken, !r.taken, !s.taken)
 }
 
 fn holds(c: Call, p: Place, x: Connection) -> bool
@@ -53,22 +42,15 @@ fn place_with(c: Call, x: Connection) -> usize
     ensures { λ r. ⌜ (r ≡ placeWith c (heldBy x)) × (r < 4) ⌝ }
 {
     let p = c.places[0];
-    if holds(c, p, x) {
-        return 0;
-    }
     let q = c.places[1];
-    if holds(c, q, x) {
-        return 1;
-    }
     let r = c.places[2];
-    if holds(c, r, x) {
-        return 2;
-    }
     let s = c.places[3];
-    if holds(c, s, x) {
-        return 3;
-    }
-    0
+    first_of_four(
+        holds(c, p, x),
+        holds(c, q, x),
+        holds(c, r, x),
+        holds(c, s, x),
+    )
 }
 
 fn with_place(c: Call, j: usize, p: Place) -> Call

@@ -1,15 +1,15 @@
 -- A call beside a request: only a call of the request's pair has its IDs, or connections under its short ID.
 -- Assumes nothing.
-use Prim.Native.Nat.{ℕ, zero, suc, _+_}
+use Prim.Native.Nat.{ℕ, _+_}
 use mathlib.Core.Path.{_≡_, refl, sym}
 use mathlib.Core.List.{List}
-use mathlib.Core.Bool.{Bool, true, false, not, _&&_, _||_, and-assoc, and-true, and-false}
+use mathlib.Core.Bool.{Bool, true, false, not, _&&_, _||_, and-assoc, and-true}
 use lib.Dec.{eqb}
 use borrow.Author.Tests.{not-true, not-false}
 use Rattle.lists.specs.Count.{has}
 use Rattle.lists.specs.Below.{when, below}
-use Rattle.lists.proofs.Count.{has-append}
-use Rattle.lists.proofs.Below.{has-none, has-when, has-turn}
+use Rattle.lists.proofs.Below.{has-none, has-turn}
+use Rattle.lists.proofs.Shown.{has-shown}
 use Rattle.table.specs.declared.state.Call.{Call}
 use Rattle.table.specs.Lists.{Ids, idsOf, underCall, placeAt, heldIn}
 use Rattle.table.specs.Rules.{sameBytes, samePair, sameShort, sameLong}
@@ -25,25 +25,6 @@ module _ {ℓ} {A : Type ℓ} (u : ℕ → Bool) (x : ℕ → A) where
     where
       turn : (j : ℕ) {v : Bool} → v ≡ has (λ y. true) (places j) → (v || u j) ≡ has (λ y. true) (places (j + 1))
       turn j h = has-turn _ _ j _ _ (u j) (x j) refl h (sym (and-true (u j)))
-
-  -- a test that comes out alike wherever a place is
-  has-alike : (p : A → Bool) (b : Bool) (n : ℕ) → ((j : ℕ) → p (x j) ≡ b) → has p (places n) ≡ (b && has (λ y. true) (places n))
-  unfolding below
-  has-alike p b zero h = sym (and-false b)
-  has-alike p b (suc n) h =
-      rw (
-        has-append p (places n) (when (u n) (x n)),
-        has-append (λ y. true) (places n) (when (u n) (x n)),
-        has-when p (u n) (x n),
-        has-when (λ y. true) (u n) (x n),
-        has-alike p b n h,
-        h n,
-      )
-      (by b (has (λ y. true) (places n)) (u n))
-    where
-      by : (b m v : Bool) → (b && m || v && b) ≡ (b && (m || v && true))
-      by true m v = refl
-      by false m v = and-false v
 
 module _ (c : Ids) (d : Call) (used : Bool) where
   abbrev pair : Bool
@@ -62,7 +43,8 @@ module _ (c : Ids) (d : Call) (used : Bool) where
       let s = eqb (c .short) (d .id .0) in
       let e = eqb (c .endpoint) (d .endpoint) in
       let f = eqb (c .sender) (d .sender) in
-      rw (has-alike (λ j. placeAt d j .taken) (λ j. underCall d (placeAt d j)) (isUnder c) (s && e && f) 4 (λ j. refl)) (by used s e f (has (λ x. true) (heldIn d)))
+      rw (has-shown (λ j. placeAt d j .taken) (λ j. underCall d (placeAt d j)) (isUnder c) (λ x. true) (s && e && f) 4 (λ j. sym (and-true (s && e && f))))
+      (by used s e f (has (λ x. true) (heldIn d)))
     where
       by : (u a b c m : Bool) → (u && (a && b && c && m)) ≡ (u && (b && c) && (a && m))
       by true true b c m = refl

@@ -18,7 +18,7 @@ use Rattle.table.specs.Lists.{idsOf, Held, underCall, placeAt, heldIn, withNoCa
 use Rattle.table.specs.Rules.{sameLsp}
 use Rattle.changes.specs.Connections.{sameFour, isCallOf}
 use Rattle.calls.specs.PathRules.{underOther}
-use Rattle.paths.proofs.Shown.{count-shown, has-shown}
+use Rattle.lists.proofs.Shown.{count-shown, has-shown}
 
 -- what one list says of a connection: whether it has it under another Call ID, whether it has it, how many of its four it has
 abbrev pub Matched : Bool → Held → List Held → Bool → Bool → ℕ → Type 0

@@ -6,20 +6,14 @@ use mathlib.Core.List.{List}
 use mathlib.Core.Bool.{Bool, false, cond, _||_}
 use Rattle.lists.specs.Count.{count, has}
 use Rattle.lists.specs.Below.{whole, below, placeOf}
-use Rattle.lists.proofs.Count.{count-append, has-append}
-use Rattle.lists.proofs.Below.{below-more, count-none, has-none, has-turns, has-whole}
+use Rattle.lists.proofs.Count.{has-append}
+use Rattle.lists.proofs.Below.{below-more, count-none, count-turns, has-none, has-turns, has-whole}
 use Rattle.lists.proofs.Search.{place-none, place-turn}
 use Rattle.table.specs.Lists.{Held}
 use Rattle.table.specs.Rules.{sameLsp}
 use Rattle.changes.specs.Connections.{sameFour}
-use Rattle.changes.proofs.Slot.{count-whole}
 use Rattle.calls.specs.PathRules.{underOther}
 use Rattle.paths.proofs.Match.{Matched}
-
--- one turn of a count, where a place has a whole list
-pub count-turns {ℓ} : {A : Type ℓ} (f : ℕ → List A) (p : A → Bool) (i n r : ℕ) (b : Bool) (l : List A) → f i ≡ whole b l → n ≡ count p (below f i)
-    → r ≡ cond b (count p l) 0 → n + r ≡ count p (below f (i + 1))
-count-turns f p i n r b l e h q = rw (below-more f i, count-append p (below f i) (f i), e, count-whole p b l, h, q)
 
 module _ {A : Type 0} (f : ℕ → List A) (p : A → Bool) where
   -- whether the first n places have one that passes, and the first of them that has

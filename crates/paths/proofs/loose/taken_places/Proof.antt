@@ -1,7 +1,7 @@
 -- `loose::taken_places` meets its contract: the four places, one after another.
 use native.Mathlib.Omega.{arith}
 use borrow.Author.Needs.{needs}
-use Rattle.paths.proofs.Shown.{count-four}
+use Rattle.lists.proofs.Shown.{count-four}
 use Rattle.paths.proofs.loose.taken_places.Statement.{statement}
 use Rattle.paths.proofs.loose.taken_places.Tie as tie
 
