@@ -10,7 +10,7 @@ ghost use lib.Seq.{sets};
 ghost use Rattle.numbers.specs.BigEndian.{be16At, be24At, be32At, bytes16, bytes24, bytes32};
 
 // A byte as a wider number.
-fn wide(b: u8) -> u32
+pub(crate) fn wide(b: u8) -> u32
     ensures { λ r. ⌜ (r ≡ b) × (r < 256) ⌝ }
 {
     b as u32
