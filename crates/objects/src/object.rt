@@ -4,12 +4,12 @@ ghost use mathlib.Core.Bool.{Bool, _&&_};
 ghost use Prim.Native.Nat.{_+_, _≤_, _<_};
 ghost use lib.ListN.{length};
 ghost use lib.Dec.{eqb};
-ghost use Rattle.objects.specs.Classes.{passedOver, refusedClass};
+ghost use Rattle.numbers.specs.Search.{isIn};
+ghost use Rattle.objects.specs.Classes.{readClasses, passedOver, refusedClass};
 ghost use Rattle.objects.specs.Forms.{hasForm, attributeFormed, formed, misformed};
 ghost use Rattle.objects.specs.Item.{objectAt, badLength, itemAt};
 use crate::fault::Fault;
 use numbers::big_endian::get16;
-use numbers::search::contains;
 use numbers::search::zeros;
 
 pub const SESSION: u8 = 1;
@@ -41,36 +41,34 @@ pub enum Item {
     Found(Object),
 }
 
-const READ: [u8; 6] = [
-    SESSION,
-    ERROR_SPEC,
-    SENDER_TEMPLATE,
-    MESSAGE_ID,
-    ADMIN_STATUS,
-    SESSION_ATTRIBUTE,
-];
+fn is_read(class: u8) -> bool
+    ensures { λ r. ⌜ r ≡ isIn class readClasses ⌝ }
+{
+    (class == SESSION)
+        | (class == ERROR_SPEC)
+        | (class == SENDER_TEMPLATE)
+        | (class == MESSAGE_ID)
+        | (class == ADMIN_STATUS)
+        | (class == SESSION_ATTRIBUTE)
+}
 
-const SKIPPED: [u8; 16] = [0, 3, 4, 5, 12, 13, 14, 19, 20, 21, 24, 34, 35, 36, 37, 133];
-
+// Skipped, or ignored. Ranges, and not a search: the compiler makes one branch of this and the table of forms.
 fn passed_over(class: u8) -> bool
     ensures { λ r. ⌜ r ≡ passedOver class ⌝ }
 {
-    if contains(&READ, class) {
-        return false;
-    }
-    if contains(&SKIPPED, class) {
-        return true;
-    }
-    128 <= class
+    (class == 0)
+        | ((3 <= class) & (class <= 5))
+        | ((12 <= class) & (class <= 14))
+        | ((19 <= class) & (class <= 21))
+        | (class == MESSAGE_ID_ACK)
+        | ((34 <= class) & (class <= 37))
+        | ((128 <= class) & (class != ADMIN_STATUS) & (class != SESSION_ATTRIBUTE))
 }
 
 fn refused_class(class: u8) -> bool
     ensures { λ r. ⌜ r ≡ refusedClass class ⌝ }
 {
-    if contains(&READ, class) {
-        return false;
-    }
-    !passed_over(class)
+    !is_read(class) & !passed_over(class)
 }
 
 fn has_form(o: Object, ctype: u8, len: usize) -> bool

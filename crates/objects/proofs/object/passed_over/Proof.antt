@@ -1,42 +1,28 @@
--- `object::passed_over` meets its contract: at each return, what the searches found says which case of `passedOver` holds.
-use mathlib.Core.Path.{sym, _∙_}
+-- `object::passed_over` meets its contract: its ranges and `passedOver` agree at each of the 256 classes, as antt computes.
+use Prim.Native.Nat.{ℕ}
+use mathlib.Core.Path.{refl}
+use mathlib.Core.Bool.{Bool, not, _&&_, _||_}
+use lib.Dec.{leb, eqb}
 use borrow.Author.Needs.{needs}
+use Rattle.numbers.specs.Search.{isIn}
 use Rattle.objects.specs.Classes.{passedOver}
+use Rattle.objects.proofs.Everywhere.{agree}
 use Rattle.objects.proofs.object.passed_over.Statement.{statement}
 use Rattle.objects.proofs.object.passed_over.Tie as tie
 
-slice-aggregate-contains : tie.Need-slice-aggregate-contains
-slice-aggregate-contains c = search needs
-
-contains-requires : tie.Need-contains-requires
-contains-requires c κs = search needs
+ranges : ℕ → Bool
+ranges k =
+    eqb k 0
+    || (leb 3 k && leb k 5)
+    || (leb 12 k && leb k 14)
+    || (leb 19 k && leb k 21)
+    || eqb k 24
+    || (leb 34 k && leb k 37)
+    || (leb 128 k && not (eqb k 196) && not (eqb k 207))
 
 returns : tie.Need-returns
-unfolding passedOver
-returns c = simp (sym (c .before .contains .ensures) ∙ c .if1 .taken)
-
-slice-aggregate-contains-2 : tie.Need-slice-aggregate-contains-2
-slice-aggregate-contains-2 c = search needs
-
-contains-requires-2 : tie.Need-contains-requires-2
-contains-requires-2 c κs = search needs
-
-returns-2 : tie.Need-returns-2
-unfolding passedOver
-returns-2 c = simp (sym (c .before .before .before .before .contains .ensures) ∙ c .before .before .before .if1 .left, sym (c .before .contains2 .ensures) ∙ c .if2 .taken)
-
-returns-3 : tie.Need-returns-3
-unfolding passedOver
-returns-3 c = simp (sym (c .before .before .before .before .contains .ensures) ∙ c .before .before .before .if1 .left, sym (c .before .contains2 .ensures) ∙ c .if2 .left)
+unfolding ranges passedOver isIn
+returns c = agree ranges passedOver 256 refl (c .args .class) (search needs)
 
 pub passed-over-spec : {M : Type 1} → statement M
-passed-over-spec =
-    tie.close
-    (tie.spec
-    slice-aggregate-contains
-    contains-requires
-    returns
-    slice-aggregate-contains-2
-    contains-requires-2
-    returns-2
-    returns-3)
+passed-over-spec = tie.close (tie.spec returns)
