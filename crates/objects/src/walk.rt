@@ -1,7 +1,7 @@
 // The walk over a message's objects from place 8, in one pass; the first faulty object ends it.
 ghost use mathlib.Core.Path.{_≡_};
 ghost use mathlib.Core.List.{[]};
-ghost use Prim.Native.Nat.{_<_};
+ghost use Prim.Native.Nat.{_+_, _<_};
 ghost use Rattle.objects.specs.Walk.{sighting, withObject, objectsOf, walkOf};
 use crate::fault::Fault;
 use crate::object::ADMIN_STATUS;
@@ -41,33 +41,47 @@ pub enum Walked {
     Whole(Objects),
 }
 
-// What is seen of a class after one more object. No count reaches the object's place, so each fits.
-fn sighted(before: Seen, class: u8, o: Object) -> Seen
-    requires { ⌜ before .times < o .at ⌝ }
-    ensures { λ r. ⌜ r ≡ sighting class o before ⌝ }
+// What is seen of a class after one more object of it. No count reaches the object's place, so each fits.
+fn sighted(before: Seen, at: usize) -> Seen
+    requires { ⌜ before .times < at ⌝ }
+    ensures { λ r. ⌜ r ≡ record { at = at; times = before .times + 1 } ⌝ }
 {
-    if o.class == class {
-        return Seen {
-            at: o.at,
-            times: before.times + 1,
-        };
+    Seen {
+        at,
+        times: before.times + 1,
     }
-    before
 }
 
-fn with_object(v: Objects, o: Object) -> Objects
+fn with_object(mut v: Objects, o: Object) -> Objects
     requires { ⌜ (v .session .times < o .at) × (v .error .times < o .at) × (v .template .times < o .at) × (v .identifier .times < o .at) × (v .status .times < o .at) × (v .attribute .times < o .at) × (v .headers < o .at) ⌝ }
     ensures { λ r. ⌜ r ≡ withObject o v ⌝ }
 {
-    Objects {
-        session: sighted(v.session, SESSION, o),
-        error: sighted(v.error, ERROR_SPEC, o),
-        template: sighted(v.template, SENDER_TEMPLATE, o),
-        identifier: sighted(v.identifier, MESSAGE_ID, o),
-        status: sighted(v.status, ADMIN_STATUS, o),
-        attribute: sighted(v.attribute, SESSION_ATTRIBUTE, o),
-        headers: v.headers + 1,
+    v.headers += 1;
+    if o.class == SESSION {
+        v.session = sighted(v.session, o.at);
+        return v;
     }
+    if o.class == ERROR_SPEC {
+        v.error = sighted(v.error, o.at);
+        return v;
+    }
+    if o.class == SENDER_TEMPLATE {
+        v.template = sighted(v.template, o.at);
+        return v;
+    }
+    if o.class == MESSAGE_ID {
+        v.identifier = sighted(v.identifier, o.at);
+        return v;
+    }
+    if o.class == ADMIN_STATUS {
+        v.status = sighted(v.status, o.at);
+        return v;
+    }
+    if o.class == SESSION_ATTRIBUTE {
+        v.attribute = sighted(v.attribute, o.at);
+        return v;
+    }
+    v
 }
 
 fn nothing_seen() -> Objects

@@ -1,43 +1,67 @@
--- `walk::with_object` meets its contract: each field is what `sighted` ensures.
-use native.Mathlib.Omega.{arith}
+-- `walk::with_object` meets its contract: the class that was tested says which field of `withObject` grows, or that none does.
+use borrow.Author.Tests.{ne-eqb}
 use borrow.Author.Needs.{needs}
 use Rattle.objects.proofs.walk.with_object.Statement.{statement}
 use Rattle.objects.proofs.walk.with_object.Tie as tie
 
+add-v : tie.Need-add-v
+add-v c = search needs
+
 sighted-requires : tie.Need-sighted-requires
 sighted-requires c κs = search needs
+
+returns : tie.Need-returns
+returns c = rw (c .sighted .ensures, c .before .if1 .taken)
 
 sighted-requires-2 : tie.Need-sighted-requires-2
 sighted-requires-2 c κs = search needs
 
+returns-2 : tie.Need-returns-2
+returns-2 c = rw (c .sighted2 .ensures, c .before .if2 .taken)
+
 sighted-requires-3 : tie.Need-sighted-requires-3
 sighted-requires-3 c κs = search needs
+
+returns-3 : tie.Need-returns-3
+returns-3 c = rw (c .sighted3 .ensures, c .before .if3 .taken)
 
 sighted-requires-4 : tie.Need-sighted-requires-4
 sighted-requires-4 c κs = search needs
 
+returns-4 : tie.Need-returns-4
+returns-4 c = rw (c .sighted4 .ensures, c .before .if4 .taken)
+
 sighted-requires-5 : tie.Need-sighted-requires-5
 sighted-requires-5 c κs = search needs
+
+returns-5 : tie.Need-returns-5
+returns-5 c = rw (c .sighted5 .ensures, c .before .if5 .taken)
 
 sighted-requires-6 : tie.Need-sighted-requires-6
 sighted-requires-6 c κs = search needs
 
-add-t9 : tie.Need-add-t9
-add-t9 c = omega (arith, c .before .before .before .before .before .before .before .pre, c .before .before .before .before .before .before .before .good)
+returns-6 : tie.Need-returns-6
+returns-6 c = rw (c .sighted6 .ensures, c .before .if6 .taken)
 
-returns : tie.Need-returns
-returns c =
-    rw (c .before .before .before .before .before .before .sighted .ensures, c .before .before .before .before .before .sighted2 .ensures, c .before .before .before .before .sighted3 .ensures, c .before .before .before .sighted4 .ensures, c .before .before .sighted5 .ensures, c .before .sighted6 .ensures)
+returns-7 : tie.Need-returns-7
+returns-7 c =
+    simp (ne-eqb _ _ (c .if6 .left), ne-eqb _ _ (c .before .before .if5 .left), ne-eqb _ _ (c .before .before .before .before .if4 .left), ne-eqb _ _ (c .before .before .before .before .before .before .if3 .left), ne-eqb _ _ (c .before .before .before .before .before .before .before .before .if2 .left), ne-eqb _ _ (c .before .before .before .before .before .before .before .before .before .before .if1 .left))
 
 pub with-object-spec : {M : Type 1} → statement M
 with-object-spec =
     tie.close
     (tie.spec
+    add-v
     sighted-requires
+    returns
     sighted-requires-2
+    returns-2
     sighted-requires-3
+    returns-3
     sighted-requires-4
+    returns-4
     sighted-requires-5
+    returns-5
     sighted-requires-6
-    add-t9
-    returns)
+    returns-6
+    returns-7)
