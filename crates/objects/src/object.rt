@@ -5,8 +5,8 @@ ghost use Prim.Native.Nat.{_+_, _≤_, _<_};
 ghost use lib.ListN.{length};
 ghost use lib.Dec.{eqb};
 ghost use Rattle.numbers.specs.Search.{isIn};
-ghost use Rattle.objects.specs.Classes.{readClasses, passedOver, refusedClass};
-ghost use Rattle.objects.specs.Forms.{hasForm, attributeFormed, formed, misformed};
+ghost use Rattle.objects.specs.Classes.{readClasses, passedOver};
+ghost use Rattle.objects.specs.Forms.{hasForm, attributeFormed, formed};
 ghost use Rattle.objects.specs.Item.{objectAt, badLength, itemAt};
 use crate::fault::Fault;
 use numbers::big_endian::get16;
@@ -65,12 +65,6 @@ fn passed_over(class: u8) -> bool
         | ((128 <= class) & (class != ADMIN_STATUS) & (class != SESSION_ATTRIBUTE))
 }
 
-fn refused_class(class: u8) -> bool
-    ensures { λ r. ⌜ r ≡ refusedClass class ⌝ }
-{
-    !is_read(class) & !passed_over(class)
-}
-
 fn has_form(o: Object, ctype: u8, len: usize) -> bool
     ensures { λ r. ⌜ r ≡ hasForm o ctype len ⌝ }
 {
@@ -122,16 +116,6 @@ fn is_formed(s: &[u8], o: Object) -> bool
     false
 }
 
-fn is_misformed(s: &[u8], o: Object) -> bool
-    requires { ⌜ o .at + o .len ≤ length (now s) ⌝ }
-    ensures { λ r. ⌜ r ≡ misformed (now (s .entry)) o ⌝ }
-{
-    if passed_over(o.class) {
-        return false;
-    }
-    !is_formed(s, o)
-}
-
 fn bad_length(s: &[u8], at: usize) -> bool
     requires { ⌜ at < length (now s) ⌝ }
     ensures { λ r. ⌜ r ≡ badLength (now (s .entry)) at ⌝ }
@@ -156,7 +140,8 @@ fn object_at(s: &[u8], at: usize) -> Object
     }
 }
 
-// What stands at a place of a message: any bytes, any place.
+// What stands at a place of a message: any bytes, any place. A formed object's class is one that is read, so 8 is told from 9 only
+// where there is a fault.
 pub fn item_at(s: &[u8], at: usize) -> Item
     ensures { λ r. ⌜ r ≡ itemAt (now (s .entry)) at ⌝ }
 {
@@ -167,11 +152,14 @@ pub fn item_at(s: &[u8], at: usize) -> Item
         return Item::Faulty(Fault::ObjectLength);
     }
     let o = object_at(s, at);
-    if refused_class(o.class) {
+    if passed_over(o.class) {
+        return Item::Found(o);
+    }
+    if is_formed(s, o) {
+        return Item::Found(o);
+    }
+    if !is_read(o.class) {
         return Item::Faulty(Fault::ObjectClass);
     }
-    if is_misformed(s, o) {
-        return Item::Faulty(Fault::ObjectForm);
-    }
-    Item::Found(o)
+    Item::Faulty(Fault::ObjectForm)
 }
