@@ -231,15 +231,25 @@ fn read_path(s: &[u8], v: Objects, adds: bool) -> Reading
     }
 }
 
+fn adds(kind: Kind) -> bool
+    ensures { λ r. ⌜ (kind ≡ Kind.Path → r ≡ true) × (kind ≡ Kind.PathTear → r ≡ false) ⌝ }
+{
+    match kind {
+        Kind::Path => true,
+        Kind::PathTear => false,
+        Kind::Notify => false,
+    }
+}
+
+// One call of `read_path` for both kinds, so that it is inlined and what the walk has seen stays in registers.
 fn read_objects(s: &[u8], kind: Kind, v: Objects) -> Reading
     requires { ⌜ Placed (now s) v ⌝ }
     ensures { λ r. ⌜ r ≡ objectsRead (now (s .entry)) kind v ⌝ }
 {
-    match kind {
-        Kind::Path => read_path(s, v, true),
-        Kind::PathTear => read_path(s, v, false),
-        Kind::Notify => read_notify(s, v),
+    if let Kind::Notify = kind {
+        return read_notify(s, v);
     }
+    read_path(s, v, adds(kind))
 }
 
 // Reads a message of any bytes: tests 3 to 10, 12 and 13.
