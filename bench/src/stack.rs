@@ -1,0 +1,38 @@
+//! How much stack the proved program needs: memory below this frame is painted, a message is handled, and the lowest byte that
+//! has lost its paint is looked for.
+
+use std::hint::black_box;
+
+const SIZE: usize = 512 * 1024;
+const PAINT: u8 = 0xa5;
+
+/// Bytes of stack that `run` used below the caller's frame.
+pub fn used(run: impl FnOnce() + Send) -> usize {
+    std::thread::scope(|scope| {
+        let thread = std::thread::Builder::new().stack_size(4 * SIZE);
+        let handle = thread.spawn_scoped(scope, || below(run)).expect("a thread");
+        handle.join().expect("the thread ends")
+    })
+}
+
+#[inline(never)]
+fn below(run: impl FnOnce()) -> usize {
+    let base = paint();
+    run();
+    let mut touched = 0;
+    // SAFETY: the bytes lie in this thread's stack, below this frame, where `paint` has written.
+    while touched < SIZE && unsafe { std::ptr::read_volatile((base + touched) as *const u8) } == PAINT {
+        touched += 1;
+    }
+    SIZE - touched
+}
+
+#[inline(never)]
+fn paint() -> usize {
+    let mut room = [0u8; SIZE];
+    for byte in room.iter_mut() {
+        // SAFETY: the reference is good for one byte.
+        unsafe { std::ptr::write_volatile(byte, PAINT) };
+    }
+    black_box(room.as_ptr()) as usize
+}

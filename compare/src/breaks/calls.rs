@@ -1,0 +1,124 @@
+//! "Every call's sender is listed", "no pair has a long or short ID twice", "names 1 to 32 bytes and Call IDs nonzero".
+
+use super::tools::*;
+use super::Break;
+use crate::random::Random;
+use crate::tables;
+use second::table::{Call, Table};
+
+pub const BREAKS: &[(&str, Break)] = &[
+    ("sender of a call not listed", sender),
+    ("short ID twice in a pair", short_twice),
+    ("long ID twice in a pair", long_twice),
+    ("both IDs twice in a pair", both_twice),
+    ("name of 0 bytes", name_none),
+    ("name of 33 bytes", name_next),
+    ("name of 34 to 255 bytes", name_above),
+    ("Call ID 0", id_none),
+    ("byte right behind the name", byte_behind),
+    ("byte anywhere past the name", byte_past),
+    ("occupied bit set over a free slot", bit_set),
+    ("occupied bit cleared over a used slot", bit_cleared),
+];
+
+fn with_call(table: &mut Table, random: &mut Random, change: impl FnOnce(&mut Call)) -> bool {
+    let Some(slot) = tables::some_used(table, random) else {
+        return false;
+    };
+    change(&mut table.calls[slot]);
+    true
+}
+
+fn sender(table: &mut Table, random: &mut Random) -> bool {
+    let address = unlisted(table, random);
+    with_call(table, random, |call| call.sender = address)
+}
+
+fn short_twice(table: &mut Table, random: &mut Random) -> bool {
+    let Some((one, other)) = two_of_a_pair(table, random) else {
+        return false;
+    };
+    table.calls[other].id = table.calls[one].id;
+    true
+}
+
+fn long_twice(table: &mut Table, random: &mut Random) -> bool {
+    let Some((one, other)) = two_of_a_pair(table, random) else {
+        return false;
+    };
+    let call = table.calls[one];
+    set_name(&mut table.calls[other], tables::name(&call));
+    true
+}
+
+fn both_twice(table: &mut Table, random: &mut Random) -> bool {
+    let Some((one, other)) = two_of_a_pair(table, random) else {
+        return false;
+    };
+    table.calls[other] = table.calls[one];
+    table.calls[other].places = tables::FREE_CALL.places;
+    true
+}
+
+fn name_none(table: &mut Table, random: &mut Random) -> bool {
+    with_call(table, random, |call| set_name(call, &[]))
+}
+
+/// All 32 bytes are nonzero, so that none of them could stand behind a shorter name.
+fn full_name(call: &mut Call, size: u8) {
+    call.name = [b'n'; 32];
+    call.size = size;
+}
+
+fn name_next(table: &mut Table, random: &mut Random) -> bool {
+    with_call(table, random, |call| full_name(call, 33))
+}
+
+fn name_above(table: &mut Table, random: &mut Random) -> bool {
+    let size = *random.pick(&[34, 36, 63, 64, 65, 128, 160, 254, 255]);
+    with_call(table, random, |call| full_name(call, size))
+}
+
+fn id_none(table: &mut Table, random: &mut Random) -> bool {
+    with_call(table, random, |call| call.id = 0)
+}
+
+fn byte_behind(table: &mut Table, random: &mut Random) -> bool {
+    let bit = 1 << random.below(8);
+    with_short_name(table, random, |call, _| call.name[usize::from(call.size)] = bit)
+}
+
+fn byte_past(table: &mut Table, random: &mut Random) -> bool {
+    let bit = 1 << random.below(8);
+    with_short_name(table, random, |call, random| {
+        let at = random.between(usize::from(call.size), 31);
+        call.name[*random.pick(&[at, 31])] = bit;
+    })
+}
+
+fn with_short_name(table: &mut Table, random: &mut Random, change: impl FnOnce(&mut Call, &mut Random)) -> bool {
+    let is_short = |&slot: &usize| table.calls[slot].size < 32;
+    let short: Vec<usize> = tables::used(table).into_iter().filter(is_short).collect();
+    if short.is_empty() {
+        return false;
+    }
+    change(&mut table.calls[*random.pick(&short)], random);
+    true
+}
+
+fn bit_set(table: &mut Table, random: &mut Random) -> bool {
+    let free = tables::free(table);
+    if free.is_empty() {
+        return false;
+    }
+    table.occupied |= 1 << random.pick(&free);
+    true
+}
+
+fn bit_cleared(table: &mut Table, random: &mut Random) -> bool {
+    let Some(slot) = tables::some_used(table, random) else {
+        return false;
+    };
+    table.occupied &= !(1 << slot);
+    true
+}

@@ -1,0 +1,149 @@
+//! "What is free holds zeros": each field of a free slot, of a free place and of an unused record.
+
+use super::tools::some_customer;
+use super::Break;
+use crate::random::Random;
+use crate::tables;
+use second::table::{Call, Customer, LoosePlace, Place, Table};
+
+pub const BREAKS: &[(&str, Break)] = &[
+    ("free slot's end point", |t, r| {
+        slot(t, r, |call, r| call.endpoint = bit32(r))
+    }),
+    ("free slot's sender", |t, r| {
+        slot(t, r, |call, r| call.sender = bit32(r))
+    }),
+    ("free slot's short ID", |t, r| slot(t, r, |call, r| call.id = bit16(r))),
+    ("free slot's name size", |t, r| {
+        slot(t, r, |call, r| call.size = bit8(r))
+    }),
+    ("free slot's name", |t, r| {
+        slot(t, r, |call, r| call.name[r.below(32)] = bit8(r))
+    }),
+    ("free slot's place: mark", |t, r| {
+        slot(t, r, |call, r| some(&mut call.places, r).taken = true)
+    }),
+    ("free slot's place: Tunnel ID", |t, r| {
+        slot(t, r, |call, r| some(&mut call.places, r).tunnel = bit16(r))
+    }),
+    ("free slot's place: extended", |t, r| {
+        slot(t, r, |call, r| some(&mut call.places, r).extended = bit32(r))
+    }),
+    ("free slot's place: LSP ID", |t, r| {
+        slot(t, r, |call, r| some(&mut call.places, r).lsp = bit16(r))
+    }),
+    ("call's free place: Tunnel ID", |t, r| {
+        place(t, r, |place, r| place.tunnel = bit16(r))
+    }),
+    ("call's free place: extended", |t, r| {
+        place(t, r, |place, r| place.extended = bit32(r))
+    }),
+    ("call's free place: LSP ID", |t, r| {
+        place(t, r, |place, r| place.lsp = bit16(r))
+    }),
+    ("customer's free place: end point", |t, r| {
+        loose(t, r, |place, r| place.endpoint = bit32(r))
+    }),
+    ("customer's free place: Tunnel ID", |t, r| {
+        loose(t, r, |place, r| place.tunnel = bit16(r))
+    }),
+    ("customer's free place: extended", |t, r| {
+        loose(t, r, |place, r| place.extended = bit32(r))
+    }),
+    ("customer's free place: LSP ID", |t, r| {
+        loose(t, r, |place, r| place.lsp = bit16(r))
+    }),
+    ("unused record's address", |t, r| {
+        record(t, r, |one, r| one.address = bit32(r))
+    }),
+    ("unused record's guarantee", |t, r| {
+        record(t, r, |one, r| one.guarantee = bit8(r))
+    }),
+    ("unused record's limit", |t, r| {
+        record(t, r, |one, r| one.limit = bit8(r))
+    }),
+    ("unused record's place: mark", |t, r| {
+        record(t, r, |one, r| some(&mut one.places, r).taken = true)
+    }),
+    ("unused record's place: end point", |t, r| {
+        record(t, r, |one, r| some(&mut one.places, r).endpoint = bit32(r))
+    }),
+    ("unused record's place: Tunnel ID", |t, r| {
+        record(t, r, |one, r| some(&mut one.places, r).tunnel = bit16(r))
+    }),
+    ("unused record's place: extended", |t, r| {
+        record(t, r, |one, r| some(&mut one.places, r).extended = bit32(r))
+    }),
+    ("unused record's place: LSP ID", |t, r| {
+        record(t, r, |one, r| some(&mut one.places, r).lsp = bit16(r))
+    }),
+];
+
+fn bit8(random: &mut Random) -> u8 {
+    1 << random.below(8)
+}
+
+fn bit16(random: &mut Random) -> u16 {
+    1 << random.below(16)
+}
+
+fn bit32(random: &mut Random) -> u32 {
+    1 << random.below(32)
+}
+
+fn some<'a, T>(items: &'a mut [T], random: &mut Random) -> &'a mut T {
+    let place = random.below(items.len());
+    &mut items[place]
+}
+
+/// Changes a free slot; often the last one, or the first.
+fn slot(table: &mut Table, random: &mut Random, change: fn(&mut Call, &mut Random)) -> bool {
+    let free = tables::free(table);
+    let (Some(&low), Some(&high)) = (free.first(), free.last()) else {
+        return false;
+    };
+    let any = *random.pick(&free);
+    let slot = *random.pick(&[low, high, any]);
+    change(&mut table.calls[slot], random);
+    true
+}
+
+/// Changes a free place of a call.
+fn place(table: &mut Table, random: &mut Random, change: fn(&mut Place, &mut Random)) -> bool {
+    let Some(slot) = tables::some_used(table, random) else {
+        return false;
+    };
+    let places = table.calls[slot].places.iter_mut();
+    let mut free: Vec<&mut Place> = places.filter(|place| !place.taken).collect();
+    if free.is_empty() {
+        return false;
+    }
+    let place = random.below(free.len());
+    change(free[place], random);
+    true
+}
+
+/// Changes a free place of a customer's four.
+fn loose(table: &mut Table, random: &mut Random, change: fn(&mut LoosePlace, &mut Random)) -> bool {
+    let Some(customer) = some_customer(table, random) else {
+        return false;
+    };
+    let places = table.customers[customer].places.iter_mut();
+    let mut free: Vec<&mut LoosePlace> = places.filter(|place| !place.taken).collect();
+    if free.is_empty() {
+        return false;
+    }
+    let place = random.below(free.len());
+    change(free[place], random);
+    true
+}
+
+/// Changes a record behind those listed.
+fn record(table: &mut Table, random: &mut Random, change: fn(&mut Customer, &mut Random)) -> bool {
+    let listed = usize::from(table.listed);
+    if listed == 8 {
+        return false;
+    }
+    change(some(&mut table.customers[listed..], random), random);
+    true
+}

@@ -1,0 +1,22 @@
+//! Tables that break a table rule of 01, one function a rule and way. Each is handed a table that breaks none and
+//! says whether it could break it; the answer due is then 1. Each leaves all other rules as they are where it can.
+
+mod calls;
+mod connections;
+mod free;
+mod roster;
+pub mod tools;
+
+use crate::random::Random;
+use second::table::Table;
+
+pub type Break = fn(&mut Table, &mut Random) -> bool;
+
+/// Every breaking, with its name.
+pub fn all() -> impl Iterator<Item = &'static (&'static str, Break)> {
+    roster::BREAKS
+        .iter()
+        .chain(calls::BREAKS)
+        .chain(connections::BREAKS)
+        .chain(free::BREAKS)
+}

@@ -1,0 +1,93 @@
+//! Changes one field of a table at random: to any value, to one next to it, to zero, or to what the same field holds
+//! elsewhere in the table.
+
+use crate::random::Random;
+use second::table::{Call, Customer, LoosePlace, Place, Table};
+
+pub fn one_field(table: &mut Table, random: &mut Random) {
+    let (customers, calls) = (table.customers, table.calls);
+    match random.below(16) {
+        0 => number(&mut table.listed, &[8, 9], random),
+        1 => number(&mut table.epoch, &[1 << 24], random),
+        2 => number(&mut table.address, &[], random),
+        3 => table.occupied ^= 1 << random.below(64),
+        4 => number(&mut table.next, &[], random),
+        5..=8 => {
+            let listed = usize::from(table.listed).clamp(1, 8);
+            let end = *random.pick(&[listed, 8]);
+            let place = random.below(end);
+            of_customer(&mut table.customers[place], random.pick(&customers), random);
+        }
+        _ => {
+            let end = *random.pick(&[16, 64]);
+            let slot = random.below(end);
+            of_call(&mut table.calls[slot], random.pick(&calls), random);
+        }
+    }
+}
+
+fn of_customer(customer: &mut Customer, other: &Customer, random: &mut Random) {
+    match random.below(4) {
+        0 => number(&mut customer.address, &[other.address], random),
+        1 => number(&mut customer.guarantee, &[other.guarantee, customer.limit], random),
+        2 => number(&mut customer.limit, &[other.limit, customer.guarantee, 64], random),
+        _ => {
+            let place = random.below(4);
+            of_loose(&mut customer.places[place], random.pick(&other.places), random);
+        }
+    }
+}
+
+fn of_call(call: &mut Call, other: &Call, random: &mut Random) {
+    match random.below(6) {
+        0 => number(&mut call.endpoint, &[other.endpoint], random),
+        1 => number(&mut call.sender, &[other.sender], random),
+        2 => number(&mut call.id, &[other.id], random),
+        3 => number(&mut call.size, &[other.size, 32, 33], random),
+        4 => number(random_byte(&mut call.name, random), &[], random),
+        _ => {
+            let place = random.below(4);
+            of_place(&mut call.places[place], random.pick(&other.places), random);
+        }
+    }
+}
+
+fn random_byte<'a>(bytes: &'a mut [u8], random: &mut Random) -> &'a mut u8 {
+    let at = random.below(bytes.len());
+    &mut bytes[at]
+}
+
+fn of_place(place: &mut Place, other: &Place, random: &mut Random) {
+    match random.below(5) {
+        0 => place.taken = !place.taken,
+        1 => number(&mut place.tunnel, &[other.tunnel], random),
+        2 => number(&mut place.extended, &[other.extended], random),
+        3 => number(&mut place.lsp, &[other.lsp], random),
+        _ => *place = *other,
+    }
+}
+
+fn of_loose(place: &mut LoosePlace, other: &LoosePlace, random: &mut Random) {
+    match random.below(6) {
+        0 => place.taken = !place.taken,
+        1 => number(&mut place.endpoint, &[other.endpoint], random),
+        2 => number(&mut place.tunnel, &[other.tunnel], random),
+        3 => number(&mut place.extended, &[other.extended], random),
+        4 => number(&mut place.lsp, &[other.lsp], random),
+        _ => *place = *other,
+    }
+}
+
+/// Any value of the field's width, one next to the old, zero, or one of those given.
+fn number<T>(field: &mut T, given: &[T], random: &mut Random)
+where
+    T: Copy + TryFrom<u64> + Into<u64>,
+{
+    let old: u64 = (*field).into();
+    let wide = random.next() >> random.pick(&[32, 48, 56]);
+    let mut values = vec![0, old + 1, old.saturating_sub(1), old ^ 1 << random.below(8), wide];
+    values.extend(given.iter().map(|&value| value.into()));
+    if let Ok(value) = T::try_from(*random.pick(&values)) {
+        *field = value;
+    }
+}

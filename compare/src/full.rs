@@ -1,0 +1,84 @@
+//! A table at all its limits, reached by messages: 64 calls of eight customers, four connections under each call and
+//! four of Call ID 0 with each customer.
+
+use crate::both;
+use crate::build::{self, Connection};
+use crate::random::Random;
+use crate::rosters::{self, Shape};
+use crate::trials::hex;
+use crate::world::World;
+use second::table::Table;
+
+/// Both programs' tables.
+#[derive(Clone, Copy)]
+pub struct Tables {
+    pub first: Table,
+    pub second: Table,
+}
+
+/// A roster of eight, its fresh table and its full one.
+pub struct Full {
+    pub roster: Vec<u8>,
+    pub world: World,
+    pub fresh: Tables,
+    pub full: Tables,
+}
+
+const ENDPOINT: u32 = 0x0a00_0063;
+
+impl Full {
+    pub fn new(random: &mut Random) -> Result<Full, String> {
+        let roster = rosters::shaped(Shape::Eight, random);
+        let world = World::new(&roster, random);
+        let (_, first, second) = both::roster(&roster.bytes())?;
+        let fresh = Tables { first, second };
+        let mut full = fresh;
+        for record in &roster.records {
+            fill(&mut full, record.address, random)?;
+        }
+        let roster = roster.bytes();
+        Ok(Full {
+            roster,
+            world,
+            fresh,
+            full,
+        })
+    }
+}
+
+/// A customer's eight calls and thirty-six connections.
+fn fill(tables: &mut Tables, sender: u32, random: &mut Random) -> Result<(), String> {
+    for call in 0..=8 {
+        if call > 0 {
+            let long = [b'n'; 32];
+            let short = [call as u8];
+            let name = if call == 1 { &long[..] } else { &short };
+            send(tables, &build::open(ENDPOINT, sender, call, name), 20, random)?;
+        }
+        for lsp in 0..4 {
+            let connection = Connection {
+                endpoint: ENDPOINT,
+                tunnel: call,
+                extended: 0,
+                sender,
+                lsp,
+            };
+            send(tables, &build::path(connection, call), 23, random)?;
+        }
+    }
+    Ok(())
+}
+
+fn send(tables: &mut Tables, message: &[u8], due: u8, random: &mut Random) -> Result<(), String> {
+    let done = both::message((&tables.first, &tables.second), message, 128, random);
+    let done = done.map_err(|what| format!("{what}\nmessage {}", hex(message)))?;
+    if done.answer != due {
+        let message = hex(message);
+        return Err(format!(
+            "filling a table: answer {}, {due} due\nmessage {message}",
+            done.answer
+        ));
+    }
+    (tables.first, tables.second) = (done.first, done.second);
+    Ok(())
+}

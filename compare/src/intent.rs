@@ -1,0 +1,322 @@
+//! What a message is about to ask of the table as it stands: the fields of an opening, a closing, a Path or a PathTear
+//! that is new, repeated, or at odds with what is there.
+
+use crate::build::{Connection, Fields, C, D, NOTIFY, PATH, PATH_TEAR, R};
+use crate::random::Random;
+use crate::tables;
+use crate::world::World;
+use second::table::{Call, Table};
+
+#[derive(Clone, Copy, Debug, PartialEq, Eq, PartialOrd, Ord)]
+pub enum Intent {
+    OpenNew,
+    OpenAgain,
+    OpenShortUsed,
+    OpenLongUsed,
+    OpenCrossed,
+    OpenElsewhere,
+    OpenSwapped,
+    OpenAny,
+    CloseIdle,
+    CloseOpen,
+    CloseCrossed,
+    CloseElsewhere,
+    CloseAny,
+    PathNew,
+    PathHeld,
+    PathMoved,
+    PathUnknown,
+    PathLoose,
+    PathCrowded,
+    PathBeside,
+    PathAny,
+    TearHeld,
+    TearBeside,
+    TearAny,
+}
+
+use Intent::*;
+
+/// What a stretch of a stream does most.
+pub type Mode = &'static [(usize, Intent)];
+
+pub const FILL: Mode = &[
+    (70, OpenNew),
+    (6, OpenAgain),
+    (5, OpenShortUsed),
+    (5, OpenLongUsed),
+    (4, OpenCrossed),
+    (4, OpenElsewhere),
+    (2, OpenSwapped),
+    (4, CloseIdle),
+    (8, PathNew),
+    (4, PathLoose),
+    (2, TearHeld),
+];
+
+pub const CHURN: Mode = &[
+    (14, OpenNew),
+    (8, OpenAgain),
+    (6, OpenShortUsed),
+    (6, OpenLongUsed),
+    (5, OpenCrossed),
+    (4, OpenElsewhere),
+    (4, OpenSwapped),
+    (4, OpenAny),
+    (8, CloseIdle),
+    (5, CloseOpen),
+    (4, CloseCrossed),
+    (4, CloseElsewhere),
+    (4, CloseAny),
+    (12, PathNew),
+    (5, PathHeld),
+    (5, PathMoved),
+    (4, PathUnknown),
+    (4, PathLoose),
+    (3, PathCrowded),
+    (4, PathBeside),
+    (4, PathAny),
+    (8, TearHeld),
+    (4, TearBeside),
+    (4, TearAny),
+];
+
+pub const CONNECT: Mode = &[
+    (6, OpenNew),
+    (2, OpenAgain),
+    (3, CloseOpen),
+    (30, PathNew),
+    (8, PathHeld),
+    (8, PathMoved),
+    (4, PathUnknown),
+    (12, PathLoose),
+    (16, PathCrowded),
+    (4, PathBeside),
+    (4, PathAny),
+    (12, TearHeld),
+    (4, TearBeside),
+    (4, TearAny),
+];
+
+pub const DRAIN: Mode = &[
+    (4, OpenNew),
+    (4, OpenAgain),
+    (30, CloseIdle),
+    (12, CloseOpen),
+    (4, CloseCrossed),
+    (4, CloseElsewhere),
+    (4, CloseAny),
+    (3, PathNew),
+    (30, TearHeld),
+    (4, TearAny),
+];
+
+pub const MODES: [(usize, Mode); 4] = [(4, FILL), (4, CHURN), (3, CONNECT), (1, DRAIN)];
+
+/// The message's type and fields for this intent. Where the table has nothing to aim at, any fields do.
+pub fn fields(intent: Intent, world: &World, table: &Table, random: &mut Random) -> (u8, Fields) {
+    let any = any_fields(world, random);
+    match intent {
+        CloseIdle | CloseOpen | CloseCrossed | CloseElsewhere | CloseAny => {
+            let mut fields = closing(intent, any, table, random);
+            fields.status |= D;
+            (NOTIFY, fields)
+        }
+        TearHeld | TearBeside | TearAny => (PATH_TEAR, tearing(intent, any, table, random)),
+        PathNew | PathHeld | PathMoved | PathUnknown | PathLoose | PathCrowded | PathBeside | PathAny => {
+            (PATH, connecting(intent, any, world, table, random))
+        }
+        _ => (NOTIFY, opening(intent, any, world, table, random)),
+    }
+}
+
+/// Fields drawn from the stream's few.
+fn any_fields(world: &World, random: &mut Random) -> Fields {
+    Fields {
+        endpoint: *random.pick(&world.endpoints),
+        call: *random.pick(&world.ids),
+        tunnel: *random.pick(&world.tunnels),
+        extended: *random.pick(&world.extended),
+        sender: *random.pick(&world.senders),
+        lsp: *random.pick(&world.lsps),
+        name: random.pick(&world.names).clone(),
+        epoch: random.word() >> 8,
+        identifier: random.word(),
+        status: R | C,
+        ..Fields::default()
+    }
+}
+
+fn opening(intent: Intent, mut fields: Fields, world: &World, table: &Table, random: &mut Random) -> Fields {
+    if intent == OpenNew {
+        return unused(fields, world, table, random);
+    }
+    let Some(call) = tables::some_call(table, random) else {
+        return fields;
+    };
+    match intent {
+        OpenAgain => take_ids(&mut fields, &call),
+        OpenShortUsed => fields.call = call.id,
+        OpenLongUsed => fields.name = tables::name(&call).to_vec(),
+        OpenCrossed => cross_ids(&mut fields, &call, table, random),
+        OpenSwapped => return swapped(fields, table, random),
+        OpenElsewhere => {
+            take_ids(&mut fields, &call);
+            return fields;
+        }
+        _ => return fields,
+    }
+    take_pair(&mut fields, &call);
+    fields
+}
+
+/// The IDs of an open call with end point and sender swapped; of one whose end point is listed, if there is one.
+fn swapped(mut fields: Fields, table: &Table, random: &mut Random) -> Fields {
+    let listed = |address| tables::listed(table).iter().any(|one| one.address == address);
+    let calls = tables::calls(table).filter(|call| listed(call.endpoint));
+    let calls: Vec<&Call> = calls.collect();
+    if !calls.is_empty() {
+        let call = *random.pick(&calls);
+        take_ids(&mut fields, call);
+        (fields.endpoint, fields.sender) = (call.sender, call.endpoint);
+    }
+    fields
+}
+
+/// IDs that the pair does not use, if a few draws find them.
+fn unused(mut fields: Fields, world: &World, table: &Table, random: &mut Random) -> Fields {
+    for _ in 0..24 {
+        let pair = (fields.endpoint, fields.sender);
+        if tables::in_use(table, pair, fields.call, &fields.name) == (false, false) {
+            break;
+        }
+        fields.endpoint = *random.pick(&world.endpoints);
+        fields.call = *random.pick(&world.ids);
+        fields.name.clone_from(random.pick(&world.names));
+    }
+    fields
+}
+
+fn closing(intent: Intent, mut fields: Fields, table: &Table, random: &mut Random) -> Fields {
+    let idle = |call: &&Call| call.places.iter().all(|place| !place.taken);
+    let idle: Vec<Call> = tables::calls(table).filter(idle).copied().collect();
+    let call = match intent {
+        CloseIdle if !idle.is_empty() => Some(*random.pick(&idle)),
+        CloseAny => None,
+        _ => tables::some_call(table, random),
+    };
+    let Some(call) = call else {
+        return fields;
+    };
+    take_ids(&mut fields, &call);
+    if intent != CloseElsewhere {
+        take_pair(&mut fields, &call);
+    }
+    if intent == CloseCrossed {
+        cross_ids(&mut fields, &call, table, random);
+    }
+    fields
+}
+
+fn connecting(intent: Intent, mut fields: Fields, world: &World, table: &Table, random: &mut Random) -> Fields {
+    let call = tables::some_call(table, random);
+    match (intent, call) {
+        (PathHeld | PathMoved, _) => {
+            let call = fields.call;
+            fields = holding(fields, table, random);
+            if intent == PathMoved {
+                fields.call = if random.chance(1, 4) { 0 } else { call };
+            }
+        }
+        (PathBeside, _) => fields = beside(fields, table, random),
+        (PathLoose, _) => fields.call = 0,
+        (PathCrowded, _) => crowd(&mut fields, world, table, random),
+        (PathNew, Some(call)) => {
+            take_pair(&mut fields, &call);
+            fields.call = call.id;
+        }
+        (PathUnknown, Some(call)) => take_pair(&mut fields, &call),
+        _ if random.chance(1, 4) => fields.call = 0,
+        _ => {}
+    }
+    fields
+}
+
+/// Removes a connection under its own Call ID, another or none: any will do.
+fn tearing(intent: Intent, mut fields: Fields, table: &Table, random: &mut Random) -> Fields {
+    let call = *random.pick(&[0, fields.call, fields.call]);
+    match intent {
+        TearHeld => fields = holding(fields, table, random),
+        TearBeside => fields = beside(fields, table, random),
+        _ => {}
+    }
+    if random.chance(1, 2) {
+        fields.call = call;
+    }
+    fields
+}
+
+/// A held connection, under its own Call ID.
+fn holding(mut fields: Fields, table: &Table, random: &mut Random) -> Fields {
+    let Some(held) = tables::some_held(table, random) else {
+        return fields;
+    };
+    take_connection(&mut fields, held.connection);
+    fields.call = held.call;
+    fields
+}
+
+/// A held connection but for one of its five fields.
+fn beside(fields: Fields, table: &Table, random: &mut Random) -> Fields {
+    let mut held = holding(fields.clone(), table, random);
+    match random.below(5) {
+        0 => held.endpoint = fields.endpoint,
+        1 => held.tunnel = fields.tunnel,
+        2 => held.extended = fields.extended,
+        3 => held.sender = fields.sender,
+        _ => held.lsp = fields.lsp,
+    }
+    held
+}
+
+/// One more connection where there are most already: under the fullest call, or with a customer.
+fn crowd(fields: &mut Fields, world: &World, table: &Table, random: &mut Random) {
+    fields.lsp = random.half();
+    let places = |call: &&Call| call.places.iter().filter(|place| place.taken).count();
+    match tables::calls(table).max_by_key(places) {
+        Some(call) if random.chance(1, 2) => {
+            take_pair(fields, call);
+            fields.call = call.id;
+        }
+        _ => {
+            fields.call = 0;
+            fields.sender = world.senders[0];
+        }
+    }
+}
+
+fn take_pair(fields: &mut Fields, call: &Call) {
+    fields.endpoint = call.endpoint;
+    fields.sender = call.sender;
+}
+
+fn take_ids(fields: &mut Fields, call: &Call) {
+    fields.call = call.id;
+    fields.name = tables::name(call).to_vec();
+}
+
+/// The short ID of one call with the name of another; of the same pair if there is one.
+fn cross_ids(fields: &mut Fields, call: &Call, table: &Table, random: &mut Random) {
+    let pair = |other: &&Call| other.endpoint == call.endpoint && other.sender == call.sender;
+    let of_pair: Vec<&Call> = tables::calls(table).filter(pair).collect();
+    fields.call = of_pair[random.below(of_pair.len())].id;
+    fields.name = tables::name(of_pair[random.below(of_pair.len())]).to_vec();
+}
+
+fn take_connection(fields: &mut Fields, connection: Connection) {
+    fields.endpoint = connection.endpoint;
+    fields.tunnel = connection.tunnel;
+    fields.extended = connection.extended;
+    fields.sender = connection.sender;
+    fields.lsp = connection.lsp;
+}

@@ -1,0 +1,101 @@
+//! The source of a stream's messages and buffer lengths.
+
+use crate::aim;
+use crate::build::{self, Fields, Sum, NOTIFY};
+use crate::damage;
+use crate::dress;
+use crate::intent::{self, Intent, Mode};
+use crate::random::Random;
+use crate::tally::Tally;
+use crate::world::World;
+use second::table::Table;
+
+/// A message and what it was made of.
+pub struct Made {
+    pub bytes: Vec<u8>,
+    pub fields: Fields,
+    /// Nothing was damaged, and the bytes are not random ones: the fields are what the bytes say.
+    pub whole: bool,
+}
+
+/// A message for the table as it stands. `trouble`: how many of a hundred are faulty or damaged.
+pub fn message(
+    mode: Mode,
+    trouble: usize,
+    world: &World,
+    table: &Table,
+    random: &mut Random,
+    tally: &mut Tally,
+) -> Made {
+    let intent = random.weighted(mode);
+    let (kind, mut fields) = intent::fields(intent, world, table, random);
+    let troubled = random.chance(trouble, 100);
+    if troubled && random.chance(1, 8) {
+        tally.damage("random bytes");
+        let bytes = random_bytes(random);
+        return Made {
+            bytes,
+            fields,
+            whole: false,
+        };
+    }
+    let (fault, damage) = *random.pick(&[(true, false), (false, true), (true, true)]);
+    if troubled && fault {
+        dress::fault(&mut fields, world, random);
+    }
+    let mut bytes = dress::message(kind, fields.clone(), random);
+    let damaged = troubled && damage;
+    if damaged {
+        damage::damage(&mut bytes, random, |name| tally.damage(name));
+    } else {
+        aim_at_checksums(&mut bytes, table, random);
+    }
+    tally.intent(intent);
+    Made {
+        bytes,
+        fields,
+        whole: !damaged,
+    }
+}
+
+/// One message in sixty gets the checksum FFFF, and two get a reply with it.
+fn aim_at_checksums(bytes: &mut [u8], table: &Table, random: &mut Random) {
+    match random.below(60) {
+        0 => aim::own_checksum(bytes),
+        1 | 2 => aim::reply_checksum(bytes, table),
+        _ => {}
+    }
+}
+
+/// A message of good form, for tables that are handed in broken.
+pub fn sound_message(world: &World, table: &Table, random: &mut Random) -> Vec<u8> {
+    let intent = *random.pick(&[Intent::OpenNew, Intent::CloseOpen, Intent::PathNew, Intent::TearHeld]);
+    let (kind, fields) = intent::fields(intent, world, table, random);
+    let objects = if kind == NOTIFY {
+        fields.request()
+    } else {
+        fields.connection()
+    };
+    build::message(build::Header::of(kind), &objects, Sum::Right)
+}
+
+/// Any bytes, 0 to 1,100 of them; half the time behind a header that passes.
+fn random_bytes(random: &mut Random) -> Vec<u8> {
+    let most = *random.pick(&[16, 100, 1100]);
+    let size = random.between(0, most);
+    if random.chance(1, 2) {
+        return random.bytes(size);
+    }
+    let body = random.bytes(size / 4 * 4);
+    let kind = *random.pick(&[build::PATH, build::PATH_TEAR, NOTIFY]);
+    build::message(build::Header::of(kind), &[body], Sum::Right)
+}
+
+/// A buffer's length: mostly enough, sometimes any from 0 to 300.
+pub fn buffer_length(random: &mut Random) -> usize {
+    match random.below(100) {
+        0..=3 => random.between(118, 129),
+        4..=9 => random.between(0, 300),
+        _ => random.between(128, 300),
+    }
+}

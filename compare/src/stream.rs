@@ -1,0 +1,138 @@
+//! One stream: a roster, then messages, each program going on with its own table. At points on the way the table
+//! reached is broken in every way that a rule names, nearly broken, and changed at random.
+
+use crate::both;
+use crate::coverage::{self, Step};
+use crate::intent::{Mode, FILL, MODES};
+use crate::ledger::Ledger;
+use crate::random::Random;
+use crate::rosters::{self, Shape, SHAPES};
+use crate::source::{self, Made};
+use crate::tally::Tally;
+use crate::trials::{hex, Trials};
+use crate::world::World;
+use second::table::Table;
+use second::Node;
+
+pub struct Stream {
+    name: String,
+    random: Random,
+    shape: Shape,
+    roster: Vec<u8>,
+    world: World,
+    first: Table,
+    second: Table,
+    /// The second program's node that stands from the first message to the last.
+    node: Node,
+    ledger: Option<Ledger>,
+    next: u32,
+    mode: Mode,
+    trouble: usize,
+}
+
+impl Stream {
+    pub fn new(seed: u64, number: u64, tally: &mut Tally) -> Result<Stream, String> {
+        let mut random = Random::of_part(seed, number);
+        let name = format!("seed {seed}, stream {number}");
+        let shape = random.weighted(&SHAPES);
+        let roster = rosters::shaped(shape, &mut random);
+        let bytes = roster.bytes();
+        let (answer, mut first, mut second) =
+            both::roster(&bytes).map_err(|what| format!("{name}, roster {}: {what}", hex(&bytes)))?;
+        tally.roster(answer);
+        let next = match random.below(2) {
+            0 => 1,
+            _ => 0u32.wrapping_sub(random.below(200) as u32),
+        };
+        (first.next, second.next) = (next, next);
+        let node = Node::from_table(&second).ok_or(format!("{name}: no node of a fresh table"))?;
+        Ok(Stream {
+            name,
+            shape,
+            world: World::new(&roster, &mut random),
+            ledger: (answer == 0).then(|| Ledger::new(&bytes)),
+            roster: bytes,
+            first,
+            second,
+            node,
+            next,
+            mode: FILL,
+            trouble: 10,
+            random,
+        })
+    }
+
+    /// Runs this many messages.
+    pub fn run(&mut self, steps: u64, tally: &mut Tally) -> Result<(), String> {
+        let mut stretch = self.random.between(60, 200);
+        for step in 1..=steps {
+            if stretch == 0 {
+                self.mode = self.random.weighted(&MODES);
+                self.trouble = *self.random.pick(&[10, 35, 60]);
+                stretch = self.random.between(30, 120);
+            }
+            stretch -= 1;
+            self.step(step, tally)?;
+            if step == steps || self.random.chance(1, 400) {
+                self.try_tables(step, tally)?;
+            }
+        }
+        Ok(())
+    }
+
+    fn step(&mut self, step: u64, tally: &mut Tally) -> Result<(), String> {
+        let (world, random) = (&self.world, &mut self.random);
+        let made = source::message(self.mode, self.trouble, world, &self.first, random, tally);
+        let buffer = source::buffer_length(random);
+        self.message(&made, buffer, tally).map_err(|what| {
+            let (roster, message) = (hex(&self.roster), hex(&made.bytes));
+            let start = format!("roster {roster}\nfirst own identifier {}", self.next);
+            format!(
+                "{}, step {step}: {what}\n{start}\nbuffer {buffer}\nmessage {message}",
+                self.name
+            )
+        })
+    }
+
+    /// One message to all: both programs, the lasting node and the ledger.
+    fn message(&mut self, made: &Made, buffer: usize, tally: &mut Tally) -> Result<(), String> {
+        let done = both::message((&self.first, &self.second), &made.bytes, buffer, &mut self.random)?;
+        both::lasting(&mut self.node, &made.bytes, &done)?;
+        let mut seen = None;
+        if let Some(ledger) = &mut self.ledger {
+            let calls = ledger.calls();
+            let fed = ledger.feed(&made.bytes, buffer, done.answer);
+            let fed = fed.map_err(|what| format!("both answer {}; ledger: {what}", done.answer))?;
+            seen = Some((fed, calls));
+        }
+        tally.message(done.answer, buffer);
+        let (shape, before) = (self.shape, &self.first);
+        coverage::note(
+            &Step {
+                shape,
+                before,
+                made,
+                buffer,
+                done: &done,
+                seen,
+            },
+            tally,
+        );
+        (self.first, self.second) = (done.first, done.second);
+        Ok(())
+    }
+
+    /// Breakings, near misses and random changes of the table as it is now.
+    fn try_tables(&mut self, step: u64, tally: &mut Tally) -> Result<(), String> {
+        let mut trials = Trials {
+            table: &self.first,
+            world: &self.world,
+            random: &mut self.random,
+            tally,
+        };
+        trials.all().map_err(|what| {
+            let roster = hex(&self.roster);
+            format!("{}, table after step {step}, {what}\nroster {roster}", self.name)
+        })
+    }
+}

@@ -1,0 +1,157 @@
+//! What the run has seen so far, and what it has to have seen by its end.
+
+use crate::damage::DAMAGES;
+use crate::intent::Intent;
+use std::collections::BTreeMap;
+
+/// Every answer of 01 to a message, and to a roster.
+pub const MESSAGE_ANSWERS: [u8; 28] = [
+    1, 2, 3, 4, 5, 6, 7, 8, 9, 10, 11, 12, 13, 14, 15, 20, 21, 22, 23, 24, 25, 30, 31, 32, 33, 34, 35, 37,
+];
+pub const ROSTER_ANSWERS: [u8; 8] = [0, 40, 41, 42, 43, 44, 45, 46];
+
+/// How often each answer, and each situation, has to come.
+pub const LEAST: u64 = 100;
+
+type Counts = BTreeMap<&'static str, u64>;
+
+pub struct Tally {
+    messages: [u64; 256],
+    rosters: [u64; 256],
+    buffers: [u64; 301],
+    intents: BTreeMap<Intent, u64>,
+    damages: Counts,
+    situations: Counts,
+    breakings: Counts,
+    near_misses: Counts,
+    pub compared: u64,
+    pub changed: u64,
+    pub changed_refused: u64,
+}
+
+impl Tally {
+    /// Nothing seen yet. The names are those that the run has to reach.
+    pub fn new(situations: &[&'static str], breakings: &[&'static str], near: &[&'static str]) -> Tally {
+        let zeros = |names: &[&'static str]| names.iter().map(|&name| (name, 0)).collect();
+        let mut damages: Counts = DAMAGES.iter().map(|&(name, _)| (name, 0)).collect();
+        damages.insert("random bytes", 0);
+        Tally {
+            messages: [0; 256],
+            rosters: [0; 256],
+            buffers: [0; 301],
+            intents: BTreeMap::new(),
+            damages,
+            situations: zeros(situations),
+            breakings: zeros(breakings),
+            near_misses: zeros(near),
+            compared: 0,
+            changed: 0,
+            changed_refused: 0,
+        }
+    }
+
+    pub fn message(&mut self, answer: u8, buffer: usize) {
+        self.compared += 1;
+        self.messages[usize::from(answer)] += 1;
+        self.buffers[buffer] += 1;
+    }
+
+    pub fn roster(&mut self, answer: u8) {
+        self.rosters[usize::from(answer)] += 1;
+    }
+
+    pub fn intent(&mut self, intent: Intent) {
+        *self.intents.entry(intent).or_default() += 1;
+    }
+
+    pub fn damage(&mut self, name: &'static str) {
+        raise(&mut self.damages, name);
+    }
+
+    pub fn situation(&mut self, name: &'static str) {
+        raise(&mut self.situations, name);
+    }
+
+    pub fn breaking(&mut self, name: &'static str) {
+        raise(&mut self.breakings, name);
+        self.messages[1] += 1;
+    }
+
+    pub fn near_miss(&mut self, name: &'static str) {
+        raise(&mut self.near_misses, name);
+    }
+
+    pub fn roster_total(&self) -> u64 {
+        self.rosters.iter().sum()
+    }
+
+    pub fn broken_total(&self) -> u64 {
+        self.breakings.values().sum()
+    }
+
+    pub fn print(&self) {
+        print_answers("answers to messages", &self.messages);
+        print_answers("answers to rosters", &self.rosters);
+        println!("messages by what they ask:");
+        for (intent, count) in &self.intents {
+            println!("{count:>9}  {intent:?}");
+        }
+        print_counts("damages", &self.damages);
+        print_counts("situations", &self.situations);
+        print_counts("tables broken, by rule (answer 1 from both)", &self.breakings);
+        print_counts("tables nearly broken (no answer 1)", &self.near_misses);
+        let (changed, refused) = (self.changed, self.changed_refused);
+        println!("single fields changed at random: {changed}, of which {refused} were answered 1");
+    }
+
+    /// What the run should have reached and has not.
+    pub fn lacking(&self) -> Vec<String> {
+        let mut lacking = lacking_answers("answer", &MESSAGE_ANSWERS, &self.messages);
+        lacking.extend(lacking_answers("roster answer", &ROSTER_ANSWERS, &self.rosters));
+        let named = [&self.damages, &self.situations, &self.breakings, &self.near_misses];
+        for (name, count) in named.into_iter().flatten() {
+            if *count < LEAST {
+                lacking.push(format!("{name}: came {count} times only"));
+            }
+        }
+        for (length, &count) in self.buffers.iter().enumerate() {
+            if count == 0 {
+                lacking.push(format!("buffer length {length}: never came"));
+            }
+        }
+        lacking
+    }
+}
+
+/// Counts one more; the name has to be one that was announced, so that none is looked for in vain.
+fn raise(counts: &mut Counts, name: &'static str) {
+    *counts.get_mut(name).unwrap_or_else(|| panic!("{name}: not announced")) += 1;
+}
+
+/// Answers under `LEAST`, and answers that 01 does not have.
+fn lacking_answers(what: &str, known: &[u8], counts: &[u64; 256]) -> Vec<String> {
+    let mut lacking = Vec::new();
+    for answer in 0..=u8::MAX {
+        let count = counts[usize::from(answer)];
+        if known.contains(&answer) && count < LEAST {
+            lacking.push(format!("{what} {answer}: came {count} times only"));
+        } else if !known.contains(&answer) && count > 0 {
+            lacking.push(format!("{what} {answer}: 01 has no such answer"));
+        }
+    }
+    lacking
+}
+
+fn print_answers(what: &str, counts: &[u64; 256]) {
+    println!("{what}:");
+    for (answer, count) in counts.iter().enumerate().filter(|line| *line.1 > 0) {
+        println!("{count:>9}  {answer}");
+    }
+}
+
+fn print_counts(what: &str, counts: &Counts) {
+    println!("{what}:");
+    for (name, count) in counts {
+        println!("{count:>9}  {name}");
+    }
+}

@@ -1,0 +1,107 @@
+//! Tables handed in that no program made: broken ones (answer 1 from both), near misses (never 1), random changes.
+
+use crate::both::{self, Done};
+use crate::breaks;
+use crate::change;
+use crate::intent::CHURN;
+use crate::near::NEAR_MISSES;
+use crate::random::Random;
+use crate::source;
+use crate::tally::Tally;
+use crate::world::World;
+use second::table::Table;
+use second::Node;
+
+/// How often a table is changed at random.
+const CHANGES: usize = 60;
+
+pub struct Trials<'a> {
+    /// A table that breaks no rule.
+    pub table: &'a Table,
+    pub world: &'a World,
+    pub random: &'a mut Random,
+    pub tally: &'a mut Tally,
+}
+
+impl Trials<'_> {
+    pub fn all(&mut self) -> Result<(), String> {
+        if self.table.listed > 0 {
+            for (name, change) in breaks::all() {
+                self.broken(name, *change)
+                    .map_err(|what| format!("broken ({name}): {what}"))?;
+            }
+            for (name, change) in NEAR_MISSES {
+                self.near(name, *change)
+                    .map_err(|what| format!("nearly broken ({name}): {what}"))?;
+            }
+        }
+        for _ in 0..CHANGES {
+            self.changed().map_err(|what| format!("changed at random: {what}"))?;
+        }
+        Ok(())
+    }
+
+    fn broken(&mut self, name: &'static str, change: breaks::Break) -> Result<(), String> {
+        let mut table = *self.table;
+        if !change(&mut table, self.random) {
+            return Ok(());
+        }
+        let done = self.compare(&table)?;
+        if done.answer != 1 {
+            return Err(format!("both answer {}, not 1", done.answer));
+        }
+        both::same_tables(&done.first, &table).map_err(|what| format!("answer 1, but {what}"))?;
+        if done.length != 0 || done.old != done.buffer {
+            return Err("answer 1 with a reply".into());
+        }
+        self.tally.breaking(name);
+        Ok(())
+    }
+
+    fn near(&mut self, name: &'static str, change: breaks::Break) -> Result<(), String> {
+        let mut table = *self.table;
+        if !change(&mut table, self.random) {
+            return Ok(());
+        }
+        if self.compare(&table)?.answer == 1 {
+            return Err("both answer 1".into());
+        }
+        self.tally.near_miss(name);
+        Ok(())
+    }
+
+    fn changed(&mut self) -> Result<(), String> {
+        let mut table = *self.table;
+        change::one_field(&mut table, self.random);
+        let done = self.compare(&table)?;
+        self.tally.changed += 1;
+        self.tally.changed_refused += u64::from(done.answer == 1);
+        Ok(())
+    }
+
+    /// A message for the table as it was, mostly of good form, to both programs with the changed table.
+    fn compare(&mut self, table: &Table) -> Result<Done, String> {
+        let sound = self.random.chance(3, 4);
+        let (message, buffer) = if sound {
+            let message = source::sound_message(self.world, self.table, self.random);
+            (message, self.random.between(128, 300))
+        } else {
+            let (world, random, tally) = (self.world, &mut *self.random, &mut *self.tally);
+            let made = source::message(CHURN, 60, world, self.table, random, tally);
+            (made.bytes, source::buffer_length(random))
+        };
+        let done = both::message((table, table), &message, buffer, self.random)
+            .map_err(|what| format!("{what}\nbuffer {buffer}\nmessage {}", hex(&message)))?;
+        if Node::from_table(table).is_none() != (done.answer == 1) {
+            return Err(format!(
+                "both answer {}, the second's rule check says otherwise",
+                done.answer
+            ));
+        }
+        Ok(done)
+    }
+}
+
+pub fn hex(bytes: &[u8]) -> String {
+    bytes.iter().map(|byte| format!("{byte:02x}")).collect()
+}

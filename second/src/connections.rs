@@ -1,0 +1,47 @@
+//! 01, "Every answer": putting connections under calls and taking them away.
+
+use crate::message::PathRequest;
+use crate::node::{Holder, Home, Node};
+
+impl Node {
+    /// Path: 14, 24, 35, 37, 23.
+    pub(crate) fn add(&mut self, request: &PathRequest<'_>, customer: usize) -> u8 {
+        if let Some(home) = self.connections.get(&request.connection) {
+            let same_call = home.holder.call_id() == request.call;
+            return if same_call { 24 } else { 14 };
+        }
+        let (holder, places) = if request.call == 0 {
+            let account = &mut self.roster.accounts[customer];
+            (Holder::Customer(customer), &mut account.places)
+        } else {
+            let id = request.call;
+            let Some(call) = self.calls.get_mut(&(request.connection.pair, id)) else {
+                return 35;
+            };
+            let slot = call.slot;
+            (Holder::Call { id, slot }, &mut call.places)
+        };
+        let Some(place) = places.take_lowest() else {
+            return 37;
+        };
+        let home = Home { holder, place };
+        self.connections.insert(request.connection, home);
+        23
+    }
+
+    /// PathTear: 15, 25. Its Call ID is not looked at.
+    pub(crate) fn drop_connection(&mut self, request: &PathRequest<'_>) -> u8 {
+        let Some(home) = self.connections.remove(&request.connection) else {
+            return 15;
+        };
+        let places = match home.holder {
+            Holder::Customer(customer) => &mut self.roster.accounts[customer].places,
+            Holder::Call { id, .. } => {
+                let call = self.calls.get_mut(&(request.connection.pair, id));
+                &mut call.expect("a connection's call is open").places
+            }
+        };
+        places.release(home.place);
+        25
+    }
+}

@@ -1,0 +1,25 @@
+//! The call side of a light-path node, written from document 01 alone.
+//!
+//! The node's state is kept in maps and sets (`Node`). A table is only what goes in and comes out.
+#![forbid(unsafe_code)]
+
+mod bytes;
+mod calls;
+mod checksum;
+mod connections;
+pub mod keys;
+pub mod message;
+mod node;
+mod objects;
+mod places;
+mod reply;
+mod restore;
+mod roster;
+pub mod table;
+#[cfg(test)]
+mod tests;
+
+pub use message::{read_message, Message};
+pub use node::{handle, Node};
+pub use roster::read_roster;
+pub use table::Table;

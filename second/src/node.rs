@@ -1,0 +1,133 @@
+//! 01, "What the node does" and the order of "Every answer".
+
+use std::collections::{BTreeSet, HashMap};
+
+use crate::keys::{Connection, LongId, Name, ShortId};
+use crate::message::{read, CallRequest, Message};
+use crate::places::Places;
+use crate::reply::{self, Own};
+use crate::roster::Roster;
+use crate::table::Table;
+
+/// What the node knows, in maps and sets.
+#[derive(Clone, Debug)]
+pub struct Node {
+    pub(crate) address: u32,
+    pub(crate) epoch: u32,
+    /// The identifier that the next Notify carries.
+    pub(crate) next: u32,
+    pub(crate) roster: Roster,
+    /// The open calls.
+    pub(crate) calls: HashMap<ShortId, OpenCall>,
+    /// The short Call ID that goes with a long one.
+    pub(crate) long_ids: HashMap<LongId, u16>,
+    /// The free ones of the sixty-four slots.
+    pub(crate) free: BTreeSet<usize>,
+    /// The connections, and where each stands.
+    pub(crate) connections: HashMap<Connection, Home>,
+}
+
+#[derive(Clone, Debug)]
+pub(crate) struct OpenCall {
+    pub slot: usize,
+    pub name: Name,
+    pub places: Places,
+}
+
+/// Where a connection stands.
+#[derive(Clone, Copy, Debug)]
+pub(crate) struct Home {
+    pub holder: Holder,
+    pub place: usize,
+}
+
+/// Whose four places it stands in.
+#[derive(Clone, Copy, Debug)]
+pub(crate) enum Holder {
+    /// Call ID 0, by the customer's place in the roster.
+    Customer(usize),
+    /// A call of the connection's pair, by its short Call ID and slot.
+    Call { id: u16, slot: usize },
+}
+
+impl Holder {
+    /// The Call ID, 0 for no call.
+    pub fn call_id(self) -> u16 {
+        match self {
+            Holder::Customer(_) => 0,
+            Holder::Call { id, .. } => id,
+        }
+    }
+}
+
+/// Everything 01 asks of one message, the rule check included: answer, reply length, table afterwards.
+pub fn handle(table: &Table, message: &[u8], reply: &mut [u8]) -> (u8, usize, Table) {
+    let Some(mut node) = Node::from_table(table) else {
+        return (1, 0, *table);
+    };
+    let (answer, length) = node.answer(message, reply);
+    (answer, length, node.to_table())
+}
+
+impl Node {
+    /// Answers a message, the rules taken as held: answer, and reply length or 0.
+    /// Writes the reply to the front of `reply`.
+    pub fn answer(&mut self, message: &[u8], reply: &mut [u8]) -> (u8, usize) {
+        if reply.len() < reply::SMALLEST_BUFFER {
+            return (2, 0);
+        }
+        let (message, customer) = match self.admit(message) {
+            Ok(admitted) => admitted,
+            Err(fault) => return (fault, 0),
+        };
+        match message {
+            Message::Open(request) => {
+                let answer = self.open(&request, customer);
+                (answer, self.notify(reply, &request, false, answer))
+            }
+            Message::Close(request) => {
+                let answer = self.close(&request, customer);
+                (answer, self.notify(reply, &request, true, answer))
+            }
+            Message::Add(request) => match self.add(&request, customer) {
+                refusal @ (35 | 37) => {
+                    let length = reply::path_err(reply, self.address, &request, refusal);
+                    (refusal, length)
+                }
+                answer => (answer, 0),
+            },
+            Message::Drop(request) => (self.drop_connection(&request), 0),
+        }
+    }
+
+    /// The message and its customer's place in the roster, or the fault of form; 11 stands before 12 and 13.
+    fn admit<'a>(&self, message: &'a [u8]) -> Result<(Message<'a>, usize), u8> {
+        match read(message) {
+            Ok(message) => {
+                let customer = self.roster.find(message.sender()).ok_or(11)?;
+                Ok((message, customer))
+            }
+            Err(fault) => match fault.sender {
+                Some(sender) if self.roster.find(sender).is_none() => Err(11),
+                _ => Err(fault.answer),
+            },
+        }
+    }
+
+    /// Sends a Notify, which uses up one own identifier.
+    fn notify(
+        &mut self,
+        reply: &mut [u8],
+        request: &CallRequest<'_>,
+        closes: bool,
+        answer: u8,
+    ) -> usize {
+        let own = Own {
+            address: self.address,
+            epoch: self.epoch,
+            identifier: self.next,
+        };
+        self.next = self.next.wrapping_add(1);
+        reply::notify(reply, own, request, closes, answer)
+    }
+}

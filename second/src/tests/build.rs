@@ -1,0 +1,202 @@
+//! Messages, rosters and a node under test.
+
+use crate::table::Table;
+use crate::{handle, read_roster, Node};
+
+/// The customers of "Two customers, one table", and a stranger.
+pub const X: u32 = 0x0a00_0001;
+pub const Y: u32 = 0x0b00_0001;
+pub const STRANGER: u32 = 0x0c00_0001;
+pub const END: u32 = 0x0a00_0002;
+
+pub const PATH: u8 = 1;
+pub const PATH_TEAR: u8 = 5;
+pub const NOTIFY: u8 = 21;
+
+/// ADMIN_STATUS with R and C, and with D as well.
+pub const SETUP: u32 = 0x8000_0008;
+pub const CLOSE: u32 = 0x8000_0009;
+
+/// What the reply buffer holds before each message.
+pub const OLD: u8 = 0x5a;
+
+/// Bytes from hex, blanks let go by.
+pub fn hex(text: &str) -> Vec<u8> {
+    let digits: Vec<u8> = text
+        .chars()
+        .filter_map(|c| c.to_digit(16))
+        .map(|d| d as u8)
+        .collect();
+    digits.chunks(2).map(|two| two[0] << 4 | two[1]).collect()
+}
+
+pub fn object(class: u8, c_type: u8, body: &[u8]) -> Vec<u8> {
+    let mut object = ((body.len() + 4) as u16).to_be_bytes().to_vec();
+    object.extend([class, c_type]);
+    object.extend(body);
+    object
+}
+
+pub fn session(endpoint: u32, call: u16, tunnel: u16, extended: u32) -> Vec<u8> {
+    let mut body = endpoint.to_be_bytes().to_vec();
+    body.extend(call.to_be_bytes());
+    body.extend(tunnel.to_be_bytes());
+    body.extend(extended.to_be_bytes());
+    object(1, 7, &body)
+}
+
+pub fn template(sender: u32, lsp: u16) -> Vec<u8> {
+    let mut body = sender.to_be_bytes().to_vec();
+    body.extend([0, 0]);
+    body.extend(lsp.to_be_bytes());
+    object(11, 7, &body)
+}
+
+pub fn error_spec(code: u8, value: u16) -> Vec<u8> {
+    let [high, low] = value.to_be_bytes();
+    object(6, 1, &[0, 0, 0, 0, 0, code, high, low])
+}
+
+pub fn message_id() -> Vec<u8> {
+    object(23, 1, &hex("00000009 0000002a"))
+}
+
+pub fn admin_status(bits: u32) -> Vec<u8> {
+    object(196, 1, &bits.to_be_bytes())
+}
+
+pub fn attribute(name: &[u8]) -> Vec<u8> {
+    let mut body = vec![0, 0, 0, name.len() as u8];
+    body.extend(name);
+    body.resize(4 + name.len().div_ceil(4) * 4, 0);
+    object(207, 7, &body)
+}
+
+/// A message without a checksum.
+pub fn message(kind: u8, objects: &[Vec<u8>]) -> Vec<u8> {
+    let body = objects.concat();
+    let mut message = vec![0x10, kind, 0, 0, 255, 0];
+    message.extend(((body.len() + 8) as u16).to_be_bytes());
+    message.extend(body);
+    message
+}
+
+/// The six objects of a Notify. Tests change single ones.
+pub fn six(sender: u32, id: u16, name: &[u8], status: u32) -> Vec<Vec<u8>> {
+    vec![
+        session(END, id, 1, X),
+        error_spec(0, 0),
+        template(sender, 1),
+        message_id(),
+        admin_status(status),
+        attribute(name),
+    ]
+}
+
+pub fn open(sender: u32, id: u16, name: &[u8]) -> Vec<u8> {
+    message(NOTIFY, &six(sender, id, name, SETUP))
+}
+
+pub fn close(sender: u32, id: u16, name: &[u8]) -> Vec<u8> {
+    message(NOTIFY, &six(sender, id, name, CLOSE))
+}
+
+/// A connection told from others by its LSP ID.
+pub fn path(sender: u32, call: u16, lsp: u16) -> Vec<u8> {
+    message(PATH, &[session(END, call, 1, X), template(sender, lsp)])
+}
+
+pub fn tear(sender: u32, call: u16, lsp: u16) -> Vec<u8> {
+    message(
+        PATH_TEAR,
+        &[session(END, call, 1, X), template(sender, lsp)],
+    )
+}
+
+/// A roster: own address 10.0.0.2, epoch 7, records of address, guarantee and limit.
+pub fn roster(records: &[(u32, u16, u16)]) -> Vec<u8> {
+    let mut bytes = vec![0x10 | records.len() as u8];
+    bytes.extend(hex("0a000002 000007"));
+    for (address, guarantee, limit) in records {
+        bytes.extend(address.to_be_bytes());
+        bytes.extend((guarantee << 9 | limit << 2).to_be_bytes());
+    }
+    bytes
+}
+
+/// A node under test: the table from message to message, and beside it a `Node` that stays.
+pub struct Desk {
+    pub table: Table,
+    pub node: Node,
+    pub reply: Vec<u8>,
+}
+
+impl Desk {
+    pub fn new(records: &[(u32, u16, u16)]) -> Desk {
+        let (answer, table) = read_roster(&roster(records));
+        assert_eq!(answer, 0);
+        Desk::with(table)
+    }
+
+    /// X with guarantee 1 and limit 2, Y with 62 and 64.
+    pub fn two() -> Desk {
+        Desk::new(&[(X, 1, 2), (Y, 62, 64)])
+    }
+
+    pub fn with(table: Table) -> Desk {
+        let node = Node::from_table(&table).expect("the rules hold");
+        assert_eq!(node.to_table(), table);
+        Desk {
+            table,
+            node,
+            reply: Vec::new(),
+        }
+    }
+
+    /// The answer to a message. Checks what 01 says of every answer.
+    pub fn ask(&mut self, message: &[u8]) -> u8 {
+        let (mut buffer, mut other) = ([OLD; 160], [OLD; 160]);
+        let (answer, length, after) = handle(&self.table, message, &mut buffer);
+        assert_eq!(self.node.answer(message, &mut other), (answer, length));
+        assert_eq!(buffer, other);
+        assert_eq!(self.node.to_table(), after);
+        assert!(Node::from_table(&after).is_some(), "answer 1 never comes");
+        check_change(answer, &self.table, &after);
+        let replied = matches!(answer, 20..=22 | 30..=35 | 37);
+        assert_eq!(length > 0, replied);
+        assert!(buffer[length..].iter().all(|&byte| byte == OLD));
+        self.table = after;
+        self.reply = buffer[..length].to_vec();
+        answer
+    }
+
+    /// S, from the table.
+    pub fn s(&self) -> usize {
+        let larger = |address: u32, guarantee: u8| {
+            let calls = self.table.calls.iter();
+            calls
+                .filter(|call| call.id != 0 && call.sender == address)
+                .count()
+                .max(guarantee.into())
+        };
+        let listed = &self.table.customers[..self.table.listed.into()];
+        listed.iter().map(|c| larger(c.address, c.guarantee)).sum()
+    }
+
+    /// Opens calls with the IDs 1 to `count`, each named by its ID.
+    pub fn open_many(&mut self, sender: u32, count: u16) {
+        for id in 1..=count {
+            assert_eq!(self.ask(&open(sender, id, &id.to_be_bytes())), 20);
+        }
+    }
+}
+
+/// "Answers that send none leave the table equal, but for 23 and 25"; the own identifier moves with a Notify.
+fn check_change(answer: u8, before: &Table, after: &Table) {
+    let notify = matches!(answer, 20..=22 | 30..=34);
+    let next = before.next.wrapping_add(notify.into());
+    assert_eq!(after.next, next);
+    let changes = matches!(answer, 20 | 22 | 23 | 25);
+    let rest = Table { next, ..*before };
+    assert_eq!(rest != *after, changes);
+}
