@@ -30,11 +30,16 @@ typedef struct {
     uint16_t lsp;
 } chaffmoor_place;
 
-/* A call. Its long Call ID is the first `size` bytes of `name`. */
+/* A call. Its long Call ID is the first `size` bytes of `name`. `made`, `refreshed`, `epoch` and `identifier` are for later requests: a table rule
+ * holds them at zero. */
 typedef struct {
     uint32_t endpoint;
     uint32_t sender;
+    uint32_t refreshed;
+    uint32_t epoch;
+    uint32_t identifier;
     uint16_t id;               /* the short Call ID */
+    bool made;
     uint8_t size;
     uint8_t name[CHAFFMOOR_NAME];
     chaffmoor_place places[CHAFFMOOR_PLACES];
@@ -85,10 +90,29 @@ chaffmoor_roster_reply chaffmoor_read_roster(const uint8_t *roster, size_t roste
 /* Handles a message of any bytes. Where a reply is sent, its first `length` bytes are in the buffer; all other bytes of the buffer are as they were. */
 chaffmoor_message_reply chaffmoor_handle(chaffmoor_table table, const uint8_t *message, size_t message_length, uint8_t *reply, size_t reply_length);
 
+/* What writing a copy of the table gets: 0 and the copy's length; 1 where the table breaks a rule, 73 where the buffer is too short, both with length 0 and the buffer
+ * as it was. Bytes behind the copy are as they were. */
+typedef struct {
+    uint8_t answer;
+    size_t length;
+} chaffmoor_copy_written;
+
+chaffmoor_copy_written chaffmoor_write_copy(chaffmoor_table table, uint8_t *copy, size_t copy_length);
+
+/* What reading a copy under a roster gets: 0, the table and how many records were dropped; or the roster's 40 to 46 and the empty table; or 70, 71, 72 and the roster's fresh table. */
+typedef struct {
+    uint8_t answer;
+    size_t calls;              /* records of calls that are not in the table */
+    size_t connections;        /* records of connections that are not in the table */
+    chaffmoor_table table;
+} chaffmoor_copy_read;
+
+chaffmoor_copy_read chaffmoor_read_copy(bool salvage, const uint8_t *roster, size_t roster_length, const uint8_t *copy, size_t copy_length);
+
 _Static_assert(sizeof(chaffmoor_place) == 12, "the layout of a place");
-_Static_assert(sizeof(chaffmoor_call) == 92, "the layout of a call");
+_Static_assert(sizeof(chaffmoor_call) == 104, "the layout of a call");
 _Static_assert(sizeof(chaffmoor_loose_place) == 20, "the layout of a place for Call ID 0");
 _Static_assert(sizeof(chaffmoor_customer) == 88, "the layout of a customer");
-_Static_assert(sizeof(chaffmoor_table) == 6616, "the layout of a table");
+_Static_assert(sizeof(chaffmoor_table) == 7384, "the layout of a table");
 
 #endif

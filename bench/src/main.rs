@@ -3,6 +3,7 @@
 //! between messages; each message gets the table that the one before it left.
 
 mod clock;
+mod copies;
 mod inputs;
 mod parts;
 mod stack;
@@ -30,6 +31,8 @@ fn main() {
     for (name, message) in readings() {
         reading(name, &message);
     }
+    copies::full();
+    copies::worst();
     sizes();
 }
 

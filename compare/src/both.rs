@@ -8,7 +8,7 @@ use second::Node;
 use std::panic::{catch_unwind, AssertUnwindSafe};
 
 /// Bytes before and behind the buffer that neither program is handed.
-const GUARD: usize = 32;
+pub(crate) const GUARD: usize = 32;
 
 /// What both programs made of a message.
 pub struct Done {
@@ -55,14 +55,14 @@ pub fn message(tables: (&Table, &Table), message: &[u8], buffer: usize, random: 
     })
 }
 
-/// The buffers are equal, and hold their old bytes but in the reply.
-fn same_buffers(one: &[u8], other: &[u8], old: &[u8], length: usize) -> Result<(), String> {
+/// The buffers are equal, and hold their old bytes but in the reply or copy.
+pub(crate) fn same_buffers(one: &[u8], other: &[u8], old: &[u8], length: usize) -> Result<(), String> {
     if let Some(found) = difference::of_bytes(one, other, GUARD) {
         return Err(format!("buffers differ first in {found}"));
     }
     let behind = GUARD + length;
     if behind > one.len() - GUARD || one[..GUARD] != old[..GUARD] || one[behind..] != old[behind..] {
-        return Err("both wrote outside the reply".into());
+        return Err("both wrote outside it".into());
     }
     Ok(())
 }

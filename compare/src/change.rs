@@ -39,12 +39,16 @@ fn of_customer(customer: &mut Customer, other: &Customer, random: &mut Random) {
 }
 
 fn of_call(call: &mut Call, other: &Call, random: &mut Random) {
-    match random.below(6) {
+    match random.below(12) {
         0 => number(&mut call.endpoint, &[other.endpoint], random),
         1 => number(&mut call.sender, &[other.sender], random),
         2 => number(&mut call.id, &[other.id], random),
         3 => number(&mut call.size, &[other.size, 32, 33], random),
         4 => number(random_byte(&mut call.name, random), &[], random),
+        5 => number(&mut call.refreshed, &[1 << 31], random),
+        6 => number(&mut call.epoch, &[1 << 24], random),
+        7 => number(&mut call.identifier, &[1 << 31], random),
+        8 => call.made = !call.made,
         _ => {
             let place = random.below(4);
             of_place(&mut call.places[place], random.pick(&other.places), random);

@@ -29,7 +29,11 @@ fn of_customers(first: &Customer, second: &Customer) -> Option<String> {
 fn of_calls(first: &Call, second: &Call) -> Option<String> {
     differ("endpoint", &first.endpoint, &second.endpoint)
         .or_else(|| differ("sender", &first.sender, &second.sender))
+        .or_else(|| differ("refreshed", &first.refreshed, &second.refreshed))
+        .or_else(|| differ("epoch", &first.epoch, &second.epoch))
+        .or_else(|| differ("identifier", &first.identifier, &second.identifier))
         .or_else(|| differ("id", &first.id, &second.id))
+        .or_else(|| differ("made", &first.made, &second.made))
         .or_else(|| differ("size", &first.size, &second.size))
         .or_else(|| differ("name", &first.name, &second.name))
         .or_else(|| each("places", &first.places, &second.places, of_places))
@@ -73,6 +77,9 @@ mod tests {
         other.calls[63].places[3].lsp = 0x12;
         let found = of_tables(&EMPTY, &other).expect("a difference");
         assert_eq!(found, "calls[63].places[3].lsp: first 0, second 12");
+        other.calls[63].made = true;
+        let found = of_tables(&EMPTY, &other).expect("a difference");
+        assert_eq!(found, "calls[63].made: first false, second true");
         other.customers[7].places[2].endpoint = 1;
         let found = of_tables(&EMPTY, &other).expect("a difference");
         assert!(found.starts_with("customers[7].places[2].place: "));

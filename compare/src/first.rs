@@ -6,17 +6,17 @@ use std::mem::{offset_of, size_of};
 
 /// `chaffmoor_roster_reply`.
 #[repr(C)]
-struct RosterReply {
-    answer: u8,
-    table: Table,
+pub(crate) struct RosterReply {
+    pub answer: u8,
+    pub table: Table,
 }
 
 /// `chaffmoor_message_reply`.
 #[repr(C)]
-struct MessageReply {
-    answer: u8,
-    length: usize,
-    table: Table,
+pub(crate) struct MessageReply {
+    pub answer: u8,
+    pub length: usize,
+    pub table: Table,
 }
 
 extern "C" {
@@ -32,21 +32,77 @@ extern "C" {
 
 // The header's own static assertions, and the places of the fields that they leave open.
 const _: () = assert!(size_of::<Place>() == 12);
-const _: () = assert!(size_of::<Call>() == 92);
+const _: () = assert!(size_of::<Call>() == 104);
 const _: () = assert!(size_of::<LoosePlace>() == 20);
 const _: () = assert!(size_of::<Customer>() == 88);
-const _: () = assert!(size_of::<Table>() == 6616);
-const _: () = assert!(size_of::<RosterReply>() == 6624);
-const _: () = assert!(size_of::<MessageReply>() == 6632);
+const _: () = assert!(size_of::<Table>() == 7384);
+const _: () = assert!(size_of::<RosterReply>() == 7392);
+const _: () = assert!(size_of::<MessageReply>() == 7400);
 const _: () = assert!(offset_of!(Place, tunnel) == 2 && offset_of!(Place, lsp) == 8);
-const _: () = assert!(offset_of!(Call, id) == 8 && offset_of!(Call, size) == 10);
-const _: () = assert!(offset_of!(Call, name) == 11 && offset_of!(Call, places) == 44);
+const _: () = assert!(offset_of!(Call, refreshed) == 8 && offset_of!(Call, epoch) == 12);
+const _: () = assert!(offset_of!(Call, identifier) == 16 && offset_of!(Call, id) == 20);
+const _: () = assert!(offset_of!(Call, made) == 22 && offset_of!(Call, size) == 23);
+const _: () = assert!(offset_of!(Call, name) == 24 && offset_of!(Call, places) == 56);
 const _: () = assert!(offset_of!(LoosePlace, endpoint) == 4 && offset_of!(LoosePlace, lsp) == 16);
 const _: () = assert!(offset_of!(LoosePlace, tunnel) == 8 && offset_of!(LoosePlace, extended) == 12);
 const _: () = assert!(offset_of!(Customer, limit) == 5 && offset_of!(Customer, places) == 8);
 const _: () = assert!(offset_of!(Table, next) == 8 && offset_of!(Table, listed) == 12);
 const _: () = assert!(offset_of!(Table, occupied) == 16 && offset_of!(Table, customers) == 24);
 const _: () = assert!(offset_of!(Table, calls) == 728);
+
+#[cfg(feature = "copies")]
+pub use copies::{read_copy, write_copy};
+
+/// A13's two functions.
+#[cfg(feature = "copies")]
+pub(crate) mod copies {
+    use second::table::Table;
+    use std::mem::{offset_of, size_of};
+
+    /// `chaffmoor_copy_written`.
+    #[repr(C)]
+    pub(crate) struct CopyWritten {
+        pub answer: u8,
+        pub length: usize,
+    }
+
+    /// `chaffmoor_copy_read`.
+    #[repr(C)]
+    pub(crate) struct CopyRead {
+        pub answer: u8,
+        pub calls: usize,
+        pub connections: usize,
+        pub table: Table,
+    }
+
+    extern "C" {
+        fn chaffmoor_write_copy(table: Table, copy: *mut u8, copy_length: usize) -> CopyWritten;
+        fn chaffmoor_read_copy(
+            salvage: bool,
+            roster: *const u8,
+            roster_length: usize,
+            copy: *const u8,
+            copy_length: usize,
+        ) -> CopyRead;
+    }
+
+    const _: () = assert!(size_of::<CopyWritten>() == 16 && size_of::<CopyRead>() == 7408);
+    const _: () = assert!(offset_of!(CopyRead, connections) == 16 && offset_of!(CopyRead, table) == 24);
+
+    /// The answer and the copy's length, 0 where it is refused.
+    pub fn write_copy(table: &Table, copy: &mut [u8]) -> (u8, usize) {
+        // SAFETY: the pointer is good for `len` bytes, and the library does not keep it.
+        let written = unsafe { chaffmoor_write_copy(*table, copy.as_mut_ptr(), copy.len()) };
+        (written.answer, written.length)
+    }
+
+    /// The answer, the table, and how many calls and connections were dropped.
+    pub fn read_copy(salvage: bool, roster: &[u8], copy: &[u8]) -> (u8, Table, usize, usize) {
+        // SAFETY: both pointers are good for their lengths, and the library only reads there.
+        let read = unsafe { chaffmoor_read_copy(salvage, roster.as_ptr(), roster.len(), copy.as_ptr(), copy.len()) };
+        (read.answer, read.table, read.calls, read.connections)
+    }
+}
 
 /// A roster's answer and its table.
 pub fn read_roster(bytes: &[u8]) -> (u8, Table) {

@@ -1,5 +1,6 @@
 //! Compares the proved program (first, through its C interface) with the second program, which was written from
-//! document 01 by itself. The generator and the ledger here are written from 01 as well.
+//! document 01 by itself. The generator and the ledger here are written from 01 as well. Copies (A13)
+//! are behind the feature `copies`.
 
 pub mod aim;
 pub mod both;
@@ -7,6 +8,8 @@ pub mod breaks;
 pub mod build;
 pub mod captures;
 pub mod change;
+#[cfg(feature = "copies")]
+pub mod copies;
 pub mod coverage;
 pub mod damage;
 pub mod difference;
@@ -21,6 +24,8 @@ pub mod random;
 pub mod rosters;
 pub mod run;
 pub mod source;
+#[cfg(feature = "stand_in")]
+mod stand_in;
 pub mod stream;
 pub mod tables;
 pub mod tally;

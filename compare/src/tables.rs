@@ -14,7 +14,11 @@ pub const FREE_PLACE: Place = Place {
 pub const FREE_CALL: Call = Call {
     endpoint: 0,
     sender: 0,
+    refreshed: 0,
+    epoch: 0,
+    identifier: 0,
     id: 0,
+    made: false,
     size: 0,
     name: [0; 32],
     places: [FREE_PLACE; 4],

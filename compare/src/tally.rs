@@ -13,7 +13,7 @@ pub const ROSTER_ANSWERS: [u8; 8] = [0, 40, 41, 42, 43, 44, 45, 46];
 /// How often each answer, and each situation, has to come.
 pub const LEAST: u64 = 100;
 
-type Counts = BTreeMap<&'static str, u64>;
+pub(crate) type Counts = BTreeMap<&'static str, u64>;
 
 pub struct Tally {
     messages: [u64; 256],
@@ -124,12 +124,12 @@ impl Tally {
 }
 
 /// Counts one more; the name has to be one that was announced, so that none is looked for in vain.
-fn raise(counts: &mut Counts, name: &'static str) {
+pub(crate) fn raise(counts: &mut Counts, name: &'static str) {
     *counts.get_mut(name).unwrap_or_else(|| panic!("{name}: not announced")) += 1;
 }
 
 /// Answers under `LEAST`, and answers that 01 does not have.
-fn lacking_answers(what: &str, known: &[u8], counts: &[u64; 256]) -> Vec<String> {
+pub(crate) fn lacking_answers(what: &str, known: &[u8], counts: &[u64; 256]) -> Vec<String> {
     let mut lacking = Vec::new();
     for answer in 0..=u8::MAX {
         let count = counts[usize::from(answer)];
@@ -142,14 +142,14 @@ fn lacking_answers(what: &str, known: &[u8], counts: &[u64; 256]) -> Vec<String>
     lacking
 }
 
-fn print_answers(what: &str, counts: &[u64; 256]) {
+pub(crate) fn print_answers(what: &str, counts: &[u64; 256]) {
     println!("{what}:");
     for (answer, count) in counts.iter().enumerate().filter(|line| *line.1 > 0) {
         println!("{count:>9}  {answer}");
     }
 }
 
-fn print_counts(what: &str, counts: &Counts) {
+pub(crate) fn print_counts(what: &str, counts: &Counts) {
     println!("{what}:");
     for (name, count) in counts {
         println!("{count:>9}  {name}");

@@ -1,21 +1,25 @@
 //! 01, "Every answer": putting connections under calls and taking them away.
 
+use crate::keys::Connection;
 use crate::message::PathRequest;
 use crate::node::{Holder, Home, Node};
 
 impl Node {
     /// Path: 14, 24, 35, 37, 23.
     pub(crate) fn add(&mut self, request: &PathRequest<'_>, customer: usize) -> u8 {
-        if let Some(home) = self.connections.get(&request.connection) {
-            let same_call = home.holder.call_id() == request.call;
-            return if same_call { 24 } else { 14 };
+        self.put(request.connection, request.call, customer)
+    }
+
+    /// Puts a connection under a call of its pair or, with Call ID 0, with the customer: the answers of a Path.
+    pub(crate) fn put(&mut self, connection: Connection, id: u16, customer: usize) -> u8 {
+        if let Some(home) = self.connections.get(&connection) {
+            return if home.holder.call_id() == id { 24 } else { 14 };
         }
-        let (holder, places) = if request.call == 0 {
+        let (holder, places) = if id == 0 {
             let account = &mut self.roster.accounts[customer];
             (Holder::Customer(customer), &mut account.places)
         } else {
-            let id = request.call;
-            let Some(call) = self.calls.get_mut(&(request.connection.pair, id)) else {
+            let Some(call) = self.calls.get_mut(&(connection.pair, id)) else {
                 return 35;
             };
             let slot = call.slot;
@@ -25,7 +29,7 @@ impl Node {
             return 37;
         };
         let home = Home { holder, place };
-        self.connections.insert(request.connection, home);
+        self.connections.insert(connection, home);
         23
     }
 

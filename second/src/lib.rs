@@ -1,4 +1,4 @@
-//! The call side of a light-path node, written from document 01 alone.
+//! The call side of a light-path node, written from document 01 and request A13 alone.
 //!
 //! The node's state is kept in maps and sets (`Node`). A table is only what goes in and comes out.
 #![forbid(unsafe_code)]
@@ -7,6 +7,7 @@ mod bytes;
 mod calls;
 mod checksum;
 mod connections;
+mod copy;
 pub mod keys;
 pub mod message;
 mod node;
@@ -19,6 +20,7 @@ pub mod table;
 #[cfg(test)]
 mod tests;
 
+pub use copy::{read_copy, write_copy};
 pub use message::{read_message, Message};
 pub use node::{handle, Node};
 pub use roster::read_roster;

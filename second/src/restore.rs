@@ -42,8 +42,11 @@ impl Node {
         (node.roster.spoken_for() <= CALLS).then_some(node)
     }
 
-    /// A used slot: listed sender within its limit, good IDs that its pair has only once.
+    /// A used slot: listed sender within its limit, good IDs that its pair has only once, zeros for later requests.
     fn restore_call(&mut self, slot: usize, call: &Call) -> Option<()> {
+        if call.made || call.refreshed != 0 || call.epoch != 0 || call.identifier != 0 {
+            return None;
+        }
         let name = restore_name(call)?;
         let customer = self.roster.find(call.sender)?;
         let account = &mut self.roster.accounts[customer];

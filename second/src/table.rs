@@ -19,13 +19,18 @@ pub struct Place {
     pub lsp: u16,
 }
 
-/// A call. Its long Call ID is the first `size` bytes of `name`.
+/// A call. Its long Call ID is the first `size` bytes of `name`. `refreshed`, `epoch`, `identifier` and `made` are for
+/// later requests: a table rule holds them at zero.
 #[repr(C)]
 #[derive(Clone, Copy, PartialEq, Eq, Debug)]
 pub struct Call {
     pub endpoint: u32,
     pub sender: u32,
+    pub refreshed: u32,
+    pub epoch: u32,
+    pub identifier: u32,
     pub id: u16,
+    pub made: bool,
     pub size: u8,
     pub name: [u8; NAME],
     pub places: [Place; PLACES],
@@ -88,7 +93,11 @@ impl Call {
     pub const FREE: Call = Call {
         endpoint: 0,
         sender: 0,
+        refreshed: 0,
+        epoch: 0,
+        identifier: 0,
         id: 0,
+        made: false,
         size: 0,
         name: [0; NAME],
         places: [Place::FREE; PLACES],

@@ -1,4 +1,5 @@
-//! "Every call's sender is listed", "no pair has a long or short ID twice", "names 1 to 32 bytes and Call IDs nonzero".
+//! "Every call's sender is listed", "no pair has a long or short ID twice", "names 1 to 32 bytes and Call IDs nonzero";
+//! the fields for later requests hold zeros.
 
 use super::tools::*;
 use super::Break;
@@ -17,6 +18,16 @@ pub const BREAKS: &[(&str, Break)] = &[
     ("Call ID 0", id_none),
     ("byte right behind the name", byte_behind),
     ("byte anywhere past the name", byte_past),
+    ("last refresh of a call", |t, r| {
+        later(t, r, |call, bit| call.refreshed = bit)
+    }),
+    ("request epoch of a call", |t, r| {
+        later(t, r, |call, bit| call.epoch = bit)
+    }),
+    ("request identifier of a call", |t, r| {
+        later(t, r, |call, bit| call.identifier = bit)
+    }),
+    ("made mark of a call", |t, r| later(t, r, |call, _| call.made = true)),
     ("occupied bit set over a free slot", bit_set),
     ("occupied bit cleared over a used slot", bit_cleared),
 ];
@@ -104,6 +115,12 @@ fn with_short_name(table: &mut Table, random: &mut Random, change: impl FnOnce(&
     }
     change(&mut table.calls[*random.pick(&short)], random);
     true
+}
+
+/// Changes one of the fields that are for later requests and hold zeros.
+fn later(table: &mut Table, random: &mut Random, change: fn(&mut Call, u32)) -> bool {
+    let bit = 1 << random.below(32);
+    with_call(table, random, |call| change(call, bit))
 }
 
 fn bit_set(table: &mut Table, random: &mut Random) -> bool {

@@ -13,6 +13,16 @@ pub const BREAKS: &[(&str, Break)] = &[
     ("free slot's sender", |t, r| {
         slot(t, r, |call, r| call.sender = bit32(r))
     }),
+    ("free slot's last refresh", |t, r| {
+        slot(t, r, |call, r| call.refreshed = bit32(r))
+    }),
+    ("free slot's request epoch", |t, r| {
+        slot(t, r, |call, r| call.epoch = bit32(r))
+    }),
+    ("free slot's request identifier", |t, r| {
+        slot(t, r, |call, r| call.identifier = bit32(r))
+    }),
+    ("free slot's made mark", |t, r| slot(t, r, |call, _| call.made = true)),
     ("free slot's short ID", |t, r| slot(t, r, |call, r| call.id = bit16(r))),
     ("free slot's name size", |t, r| {
         slot(t, r, |call, r| call.size = bit8(r))

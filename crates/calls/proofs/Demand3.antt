@@ -170,7 +170,7 @@ fresh-agrees : (s : List ℕ) → Bytes s → rosterAnswer s ≡ Accepted → Ag
 fresh-agrees s bytes e = record { shape = fresh-shape s; rules = fresh-holds s bytes e; calls = λ p. rw (fresh-entries s) }
 
 -- 0 is the accepted roster's answer, which returns the fresh table
-accepted : (a : RosterAnswer) → rosterNumber a ≡ 0 → a ≡ Accepted
+pub accepted : (a : RosterAnswer) → rosterNumber a ≡ 0 → a ≡ Accepted
 accepted Accepted e = refl
 accepted Short e = let z : ⊥ = omega arith in absurd z
 accepted Form e = let z : ⊥ = omega arith in absurd z

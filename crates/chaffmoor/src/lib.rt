@@ -4,8 +4,11 @@ ghost use mathlib.Core.Path.{_≡_};
 ghost use Rattle.table.specs.Roster.{rosterNumber, rosterAnswer, tableFor};
 ghost use Rattle.answers.specs.Answers.{answerNumber};
 ghost use Rattle.calls.specs.Handling.{handled};
+ghost use Rattle.copies.specs.Restored.{written, restored};
 use answers::answer::number;
+use copying::write_copy;
 use node::handle::handle;
+use restoring::restore;
 use rosters::read_roster;
 use table::answer::roster_number;
 use table::state::Table;
@@ -20,6 +23,20 @@ pub struct RosterReply {
 pub struct MessageReply {
     pub answer: u8,
     pub length: usize,
+    pub table: Table,
+}
+
+#[repr(C)]
+pub struct CopyWritten {
+    pub answer: u8,
+    pub length: usize,
+}
+
+#[repr(C)]
+pub struct CopyRead {
+    pub answer: u8,
+    pub calls: usize,
+    pub connections: usize,
     pub table: Table,
 }
 
@@ -49,5 +66,32 @@ pub extern "C" fn chaffmoor_handle(table: Table, message: &[u8], reply: &mut [u8
         answer: number(answer),
         length: r.length,
         table: after,
+    }
+}
+
+// Writes a copy of any table into any buffer.
+#[no_mangle]
+pub extern "C" fn chaffmoor_write_copy(table: Table, copy: &mut [u8]) -> CopyWritten
+    ensures { λ r. ⌜ (r .answer ≡ written table (now (copy .entry)) .answer) × (r .length ≡ written table (now (copy .entry)) .length) × (now (copy .exit) ≡ written table (now (copy .entry)) .buffer) ⌝ }
+{
+    let w = write_copy(table, copy);
+    CopyWritten {
+        answer: w.answer,
+        length: w.length,
+    }
+}
+
+// Reads a copy of any bytes under a roster of any bytes.
+#[no_mangle]
+pub extern "C" fn chaffmoor_read_copy(salvage: bool, roster: &[u8], copy: &[u8]) -> CopyRead
+    ensures { λ r. ⌜ record { answer = r .answer; table = r .table; calls = r .calls; connections = r .connections } ≡ restored salvage (now (roster .entry)) (now (copy .entry)) ⌝ }
+{
+    let f = restore(salvage, roster, copy);
+    let table = f.table;
+    CopyRead {
+        answer: f.answer,
+        calls: f.calls,
+        connections: f.connections,
+        table,
     }
 }

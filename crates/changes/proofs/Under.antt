@@ -15,7 +15,7 @@ use Rattle.table.specs.Total.{totalOf}
 use Rattle.table.specs.Word.{isUsed}
 use Rattle.table.specs.Zeros.{noPlace}
 use Rattle.table.specs.Lists.{roster, Entry, callAt, entries, Held, underCall, placeAt, heldIn, held}
-use Rattle.table.specs.Rules.{rosterHolds, namesWhole, placeClear, callTidy}
+use Rattle.table.specs.Rules.{rosterHolds, namesWhole, unusedClear, placeClear, callTidy}
 use Rattle.changes.specs.Shape.{Shape}
 use Rattle.changes.specs.Calls.{withSlot}
 use Rattle.changes.specs.Connections.{withPlace}
@@ -49,7 +49,7 @@ module _ (t : Table) (s : Shape t) (i j : ℕ) (q : Place) (inside : i < totalOf
   under-tidy : (q .taken || placeClear q) ≡ true → callTidy c ≡ true → callTidy d ≡ true
   unfolding callTidy
   under-tidy new old =
-      let k = both (zerosAt (c .name) (c .size) (32 - c .size)) _ old in
+      let k = both (unusedClear c && zerosAt (c .name) (c .size) (32 - c .size)) _ old in
       rw (k .0) (places-tidy noPlace (λ x. x .taken) (underCall c) placeClear (c .places) j 4 q (omega (arith, s .places i inside)) new (k .1))
 
   under-names : namesWhole c ≡ true → namesWhole d ≡ true

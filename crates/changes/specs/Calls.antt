@@ -1,6 +1,6 @@
 -- The table with a call opened, closed; and with the next own identifier taken.
 use Prim.Native.Nat.{ℕ}
-use mathlib.Core.Bool.{Bool, _&&_}
+use mathlib.Core.Bool.{Bool, false, _&&_}
 use lib.ListN.{length, set, replicate}
 use Rattle.numbers.specs.Buffer.{atFront}
 use Rattle.lists.specs.Below.{placeOf}
@@ -30,7 +30,11 @@ abbrev pub stored : Ids → Call
 stored c = record {
   endpoint = c .endpoint;
   sender = c .sender;
+  refreshed = 0;
+  epoch = 0;
+  identifier = 0;
   id = record { 0 = c .short };
+  made = false;
   size = length (c .long);
   name = atFront (c .long) (replicate 32 0);
   places = replicate 4 noPlace;

@@ -28,7 +28,18 @@ sameFour x y =
 -- ---- under a call
 
 abbrev pub withPlace : Call → ℕ → Place → Call
-withPlace c j p = record { endpoint = c .endpoint; sender = c .sender; id = c .id; size = c .size; name = c .name; places = set (c .places) j p }
+withPlace c j p = record {
+  endpoint = c .endpoint;
+  sender = c .sender;
+  refreshed = c .refreshed;
+  epoch = c .epoch;
+  identifier = c .identifier;
+  id = c .id;
+  made = c .made;
+  size = c .size;
+  name = c .name;
+  places = set (c .places) j p;
+}
 
 abbrev pub placeFor : Lsp → Place
 placeFor x = record { taken = true; tunnel = record { 0 = x .tunnel }; extended = x .extended; lsp = record { 0 = x .lsp } }

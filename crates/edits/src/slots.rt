@@ -15,7 +15,7 @@ use table::state::no_place;
 use table::word::lowest_free;
 
 // One slot changes sides.
-fn flip(word: u64, slot: usize) -> u64
+pub fn flip(word: u64, slot: usize) -> u64
     requires { ⌜ slot < 64 ⌝ }
     ensures { λ r. ⌜ r ≡ flipped word slot ⌝ }
 {
@@ -51,7 +51,11 @@ fn new_call(msg: &[u8], q: CallRequest) -> Call
     Call {
         endpoint: q.endpoint,
         sender: q.sender,
+        refreshed: 0,
+        epoch: 0,
+        identifier: 0,
         id,
+        made: false,
         size: size as u8,
         name,
         places,

@@ -91,14 +91,18 @@ placeClear p = not (p .taken) && eqb (p .tunnel .0) 0 && eqb (p .extended) 0 && 
 unfoldable pub loosePlaceClear : LoosePlace → Bool
 loosePlaceClear p = not (p .taken) && eqb (p .endpoint) 0 && eqb (p .tunnel .0) 0 && eqb (p .extended) 0 && eqb (p .lsp .0) 0
 
--- a call's places, those taken excepted; the bytes past its name
+-- what requests A6 and A7 will use: the mark of a call that the node made, its request's epoch and identifier, the last refresh
+abbrev pub unusedClear : Call → Bool
+unusedClear c = not (c .made) && eqb (c .refreshed) 0 && eqb (c .epoch) 0 && eqb (c .identifier) 0
+
+-- a call's places, those taken excepted; the bytes past its name; what is not in use yet
 unfoldable pub callTidy : Call → Bool
-callTidy c = zerosAt (c .name) (c .size) (32 - c .size) && everyBelow (λ j. placeAt c j .taken || placeClear (placeAt c j)) 4
+callTidy c = unusedClear c && zerosAt (c .name) (c .size) (32 - c .size) && everyBelow (λ j. placeAt c j .taken || placeClear (placeAt c j)) 4
 
 -- a free slot
 unfoldable pub callClear : Call → Bool
 callClear c =
-    eqb (c .endpoint) 0 && eqb (c .sender) 0 && eqb (c .id .0) 0 && eqb (c .size) 0 && zerosAt (c .name) 0 32
+    unusedClear c && eqb (c .endpoint) 0 && eqb (c .sender) 0 && eqb (c .id .0) 0 && eqb (c .size) 0 && zerosAt (c .name) 0 32
     && everyBelow (λ j. placeClear (placeAt c j)) 4
 
 unfoldable pub customerTidy : Customer → Bool

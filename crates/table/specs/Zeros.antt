@@ -16,7 +16,18 @@ abbrev pub noLoosePlace : LoosePlace
 noLoosePlace = record { taken = false; endpoint = 0; tunnel = record { 0 = 0 }; extended = 0; lsp = record { 0 = 0 } }
 
 unfoldable pub noCall : Call
-noCall = record { endpoint = 0; sender = 0; id = record { 0 = 0 }; size = 0; name = replicate 32 0; places = replicate 4 noPlace }
+noCall = record {
+  endpoint = 0;
+  sender = 0;
+  refreshed = 0;
+  epoch = 0;
+  identifier = 0;
+  id = record { 0 = 0 };
+  made = false;
+  size = 0;
+  name = replicate 32 0;
+  places = replicate 4 noPlace;
+}
 
 unfoldable pub noCustomer : Customer
 noCustomer = record { address = 0; guarantee = 0; limit = 0; places = replicate 4 noLoosePlace }
@@ -35,7 +46,18 @@ emptyTable = record {
 
 -- what an index past an array's end would read: no index goes there, and a definition has to say something
 abbrev pub pastCall : Call
-pastCall = record { endpoint = 0; sender = 0; id = record { 0 = 0 }; size = 0; name = []; places = [] }
+pastCall = record {
+  endpoint = 0;
+  sender = 0;
+  refreshed = 0;
+  epoch = 0;
+  identifier = 0;
+  id = record { 0 = 0 };
+  made = false;
+  size = 0;
+  name = [];
+  places = [];
+}
 
 abbrev pub pastCustomer : Customer
 pastCustomer = record { address = 0; guarantee = 0; limit = 0; places = [] }

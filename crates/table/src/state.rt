@@ -16,12 +16,17 @@ pub struct Place {
     pub lsp: LspId,
 }
 
-// A call, with its long Call ID in the first `size` bytes of `name`.
+// A call, with its long Call ID in the first `size` bytes of `name`. Whether the node made it, its last refresh and the epoch and
+// identifier of its request are for requests A6 and A7: a table rule holds them at zero until then.
 #[repr(C)]
 pub struct Call {
     pub endpoint: u32,
     pub sender: u32,
+    pub refreshed: u32,
+    pub epoch: u32,
+    pub identifier: u32,
     pub id: CallId,
+    pub made: bool,
     pub size: u8,
     pub name: [u8; 32],
     pub places: [Place; 4],
@@ -76,7 +81,11 @@ pub fn no_call() -> Call
     Call {
         endpoint: 0,
         sender: 0,
+        refreshed: 0,
+        epoch: 0,
+        identifier: 0,
         id: CallId(0),
+        made: false,
         size: 0,
         name: [0; 32],
         places,

@@ -16,7 +16,7 @@ use table::state::Table;
 use table::state::name_size;
 
 // Two calls have the same long Call ID. Names are compared only where they are as long.
-fn same_name(c: Call, d: Call) -> bool
+pub fn same_name(c: Call, d: Call) -> bool
     ensures { λ r. ⌜ r ≡ sameBytes (take (c .size) (c .name)) (take (d .size) (d .name)) ⌝ }
 {
     let n = name_size(c.size);

@@ -5,7 +5,7 @@ ghost use Prim.Native.Nat.{_-_};
 ghost use Rattle.numbers.specs.Search.{zerosAt};
 ghost use Rattle.lists.specs.Below.{everyBelow};
 ghost use Rattle.table.specs.Total.{totalOf};
-ghost use Rattle.table.specs.Rules.{namesWhole, placeClear, loosePlaceClear, callTidy, callClear, customerTidy, customerClear, slotTidy, recordTidy, holds, namesAndIds, freeHoldsZeros};
+ghost use Rattle.table.specs.Rules.{namesWhole, unusedClear, placeClear, loosePlaceClear, callTidy, callClear, customerTidy, customerClear, slotTidy, recordTidy, holds, namesAndIds, freeHoldsZeros};
 use numbers::search::zeros;
 use table::state::Call;
 use table::state::Customer;
@@ -60,6 +60,13 @@ fn past_name_clear(c: Call) -> bool
     clear
 }
 
+// What requests A6 and A7 will use.
+fn unused_clear(c: Call) -> bool
+    ensures { λ r. ⌜ r ≡ unusedClear c ⌝ }
+{
+    !c.made & (c.refreshed == 0) & (c.epoch == 0) & (c.identifier == 0)
+}
+
 // The bytes past the name of an open call, and its places that are not taken.
 fn call_tidy(c: Call) -> bool
     ensures { λ r. ⌜ r ≡ callTidy c ⌝ }
@@ -71,7 +78,7 @@ fn call_tidy(c: Call) -> bool
         clear = clear & (p.taken | place_clear(p));
         j += 1;
     }
-    past_name_clear(c) & clear
+    unused_clear(c) & past_name_clear(c) & clear
 }
 
 // A free slot.
@@ -86,7 +93,8 @@ fn call_clear(c: Call) -> bool
         clear = clear & place_clear(p);
         j += 1;
     }
-    (c.endpoint == 0)
+    unused_clear(c)
+        & (c.endpoint == 0)
         & (c.sender == 0)
         & (c.id.0 == 0)
         & (c.size == 0)

@@ -1,11 +1,16 @@
-//! Tests from document 01's own examples and sentences. Expected values come from there.
+//! Tests from document 01's own examples and sentences and from request A13's. Expected values come from there.
 
 mod build;
 mod calls;
 mod connections;
+mod copies;
+mod copy_bytes;
 mod form;
 mod objects;
 mod replies;
 mod rosters;
 mod rules;
+mod salvage_alone;
+mod salvage_beside;
+mod salvage_twins;
 mod streams;

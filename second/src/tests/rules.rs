@@ -32,10 +32,23 @@ fn breaks(change: impl FnOnce(&mut Table)) -> bool {
 fn the_layout_is_that_of_the_header() {
     use std::mem::size_of;
     assert_eq!(size_of::<Place>(), 12);
-    assert_eq!(size_of::<Call>(), 92);
+    assert_eq!(size_of::<Call>(), 104);
     assert_eq!(size_of::<LoosePlace>(), 20);
     assert_eq!(size_of::<Customer>(), 88);
-    assert_eq!(size_of::<Table>(), 6616);
+    assert_eq!(size_of::<Table>(), 7384);
+}
+
+#[test]
+fn the_new_fields_stand_as_in_the_header() {
+    use std::mem::offset_of;
+    assert_eq!(offset_of!(Call, refreshed), 8);
+    assert_eq!(offset_of!(Call, epoch), 12);
+    assert_eq!(offset_of!(Call, identifier), 16);
+    assert_eq!(offset_of!(Call, id), 20);
+    assert_eq!(offset_of!(Call, made), 22);
+    assert_eq!(offset_of!(Call, size), 23);
+    assert_eq!(offset_of!(Call, name), 24);
+    assert_eq!(offset_of!(Call, places), 56);
 }
 
 #[test]
@@ -64,6 +77,8 @@ fn the_empty_table() {
     assert!(empty(|t| t.customers[0].limit = 1));
     assert!(empty(|t| t.customers[7].address = 1));
     assert!(empty(|t| t.calls[63].id = 1));
+    assert!(empty(|t| t.calls[0].made = true));
+    assert!(empty(|t| t.calls[63].identifier = 1));
 }
 
 #[test]
@@ -136,6 +151,19 @@ fn names() {
         t.calls[0].size = 0;
         t.calls[0].name = [0; 32];
     }));
+}
+
+#[test]
+fn zeros_for_later_requests() {
+    // A used slot, the last used one, a free one, the last one.
+    for slot in [0, 2, 3, 63] {
+        assert!(breaks(|t| t.calls[slot].made = true));
+        for value in [1, 1 << 23, 1 << 24, 1 << 31, u32::MAX] {
+            assert!(breaks(|t| t.calls[slot].refreshed = value));
+            assert!(breaks(|t| t.calls[slot].epoch = value));
+            assert!(breaks(|t| t.calls[slot].identifier = value));
+        }
+    }
 }
 
 #[test]

@@ -9,7 +9,7 @@ use borrow.Author.Needs.{needs}
 use Rattle.lists.specs.Below.{everyBelow}
 use Rattle.lists.proofs.Below.{every-none, every-turn}
 use Rattle.table.specs.Lists.{placeAt}
-use Rattle.table.specs.Rules.{placeClear, callClear}
+use Rattle.table.specs.Rules.{unusedClear, placeClear, callClear}
 use Rattle.zeros.proofs.call_clear.Statement.{statement}
 use Rattle.zeros.proofs.call_clear.Tie as tie
 
@@ -40,20 +40,23 @@ loop-less c = search needs
 loop-again : tie.Need-loop-again Inv-loop μ-loop
 loop-again c = (omega arith, every-turn _ _ _ _ (c .before .before .before .loop .inv .1) (c .place-clear .ensures))
 
+unused-clear-requires : tie.Need-unused-clear-requires Inv-loop μ-loop
+unused-clear-requires c κs = search needs
+
 slice-aggregate-zeros : tie.Need-slice-aggregate-zeros Inv-loop μ-loop
 slice-aggregate-zeros c = search needs
 
 zeros-requires : tie.Need-zeros-requires Inv-loop μ-loop
 zeros-requires c κs =
-    let h : 32 ≡ length (c .before .before .before .before .args .t1 .name) = slice-aggregate-zeros c in
+    let h : 32 ≡ length (c .before .before .before .before .before .args .t1 .name) = slice-aggregate-zeros c in
     omega arith
 
 returns : tie.Need-returns Inv-loop μ-loop
 unfolding callClear
 returns c =
-    let a = c .before .before .before .before .before .args .t1 in
-    let e : c .before .before .before .loop .j ≡ 4 = omega arith in
-    ap₂ (λ z b. eqb (a .endpoint) 0 && eqb (a .sender) 0 && eqb (a .id .0) 0 && eqb (a .size) 0 && z && b) (c .zeros .ensures) (rw e at (c .before .before .before .loop .inv .1))
+    let a = c .before .before .before .before .before .before .args .t1 in
+    let e : c .before .before .before .before .loop .j ≡ 4 = omega arith in
+    rw (c .before .before .unused-clear .ensures) (ap₂ (λ z b. unusedClear a && eqb (a .endpoint) 0 && eqb (a .sender) 0 && eqb (a .id .0) 0 && eqb (a .size) 0 && z && b) (c .zeros .ensures) (rw e at (c .before .before .before .before .loop .inv .1)))
 
 pub call-clear-spec : {M : Type 1} → statement M
 call-clear-spec =
@@ -68,6 +71,7 @@ call-clear-spec =
     add-j
     loop-less
     loop-again
+    unused-clear-requires
     slice-aggregate-zeros
     zeros-requires
     returns)

@@ -7,7 +7,7 @@ use borrow.Author.Needs.{needs}
 use Rattle.lists.specs.Below.{everyBelow}
 use Rattle.lists.proofs.Below.{every-none, every-turn}
 use Rattle.table.specs.Lists.{placeAt}
-use Rattle.table.specs.Rules.{placeClear, callTidy}
+use Rattle.table.specs.Rules.{unusedClear, placeClear, callTidy}
 use Rattle.zeros.proofs.call_tidy.Statement.{statement}
 use Rattle.zeros.proofs.call_tidy.Tie as tie
 
@@ -38,14 +38,17 @@ loop-less c = search needs
 loop-again : tie.Need-loop-again Inv-loop μ-loop
 loop-again c = (omega arith, every-turn _ _ _ _ (c .before .before .before .before .loop .inv .1) (rw (c .before .place-clear .ensures)))
 
+unused-clear-requires : tie.Need-unused-clear-requires Inv-loop μ-loop
+unused-clear-requires c κs = search needs
+
 past-name-clear-requires : tie.Need-past-name-clear-requires Inv-loop μ-loop
 past-name-clear-requires c κs = search needs
 
 returns : tie.Need-returns Inv-loop μ-loop
 unfolding callTidy
 returns c =
-    let e : c .before .before .loop .j ≡ 4 = omega arith in
-    ap₂ (λ a b. a && b) (c .past-name-clear .ensures) (rw e at (c .before .before .loop .inv .1))
+    let e : c .before .before .before .loop .j ≡ 4 = omega arith in
+    rw (c .before .unused-clear .ensures) (ap₂ (λ a b. unusedClear (c .before .before .before .before .args .t1) && a && b) (c .past-name-clear .ensures) (rw e at (c .before .before .before .loop .inv .1)))
 
 pub call-tidy-spec : {M : Type 1} → statement M
 call-tidy-spec =
@@ -60,5 +63,6 @@ call-tidy-spec =
     add-j
     loop-less
     loop-again
+    unused-clear-requires
     past-name-clear-requires
     returns)

@@ -1,0 +1,173 @@
+//! Damage to the records of calls.
+
+use super::damage::Damage;
+use super::parts::*;
+use crate::build::Roster;
+use crate::random::Random;
+
+pub const DAMAGES: &[(&str, Damage)] = &[
+    ("call: bit flipped", |p, _, r| {
+        one(p, r, |call, r| call[r.below(CALL)] ^= 1 << r.below(8))
+    }),
+    ("call: made mark set", |p, _, r| {
+        one(p, r, |call, _| call[SIZE.0] |= 0x80)
+    }),
+    ("call: last refresh set", |p, _, r| {
+        one(p, r, |call, r| set(call, REFRESHED, 1 << r.below(32)))
+    }),
+    ("call: request epoch set", |p, _, r| {
+        one(p, r, |call, r| set(call, EPOCH, 1 << r.below(24)))
+    }),
+    ("call: request identifier set", |p, _, r| {
+        one(p, r, |call, r| set(call, IDENTIFIER, 1 << r.below(32)))
+    }),
+    ("call: name past its length", |p, _, r| one(p, r, past_name)),
+    ("call: name length 0", |p, _, r| one(p, r, |call, _| call[SIZE.0] = 0)),
+    ("call: name length above 32", |p, _, r| {
+        one(p, r, |call, r| call[SIZE.0] = *r.pick(&[33, 34, 64, 65, 127]))
+    }),
+    ("call: another name length", |p, _, r| {
+        one(p, r, |call, r| call[SIZE.0] = r.between(1, 32) as u8)
+    }),
+    ("call: Call ID 0", |p, _, r| one(p, r, |call, _| set(call, ID, 0))),
+    ("call: slot outside the total", |p, _, r| {
+        one(p, r, |call, r| call[SLOT.0] = *r.pick(&[64, 65, 127, 128, 192, 255]))
+    }),
+    ("call: moved to another slot", |p, _, r| {
+        one(p, r, |call, r| call[SLOT.0] = r.below(64) as u8)
+    }),
+    ("call: moved to a taken slot", taken_slot),
+    ("call: sender changed", sender),
+    ("call: end point changed", |p, _, r| {
+        one(p, r, |call, r| set(call, ENDPOINT, r.word()))
+    }),
+    ("call: short ID of another of the pair", short_id),
+    ("call: repeated", repeated),
+    ("calls: swapped", swapped),
+    ("calls: in any order", |p, _, r| {
+        r.shuffle(&mut p.calls);
+        p.calls.len() > 1
+    }),
+    ("call: taken out", taken_out),
+    ("calls: more of one customer", more),
+];
+
+fn one(parts: &mut Parts, random: &mut Random, change: fn(&mut Call, &mut Random)) -> bool {
+    let Some(number) = parts.some_call(random) else {
+        return false;
+    };
+    change(&mut parts.calls[number], random);
+    true
+}
+
+/// Two different calls, by number.
+pub fn two(parts: &Parts, random: &mut Random) -> Option<(usize, usize)> {
+    if parts.calls.len() < 2 {
+        return None;
+    }
+    let one = random.below(parts.calls.len());
+    let other = random.below(parts.calls.len() - 1);
+    Some((one, if other < one { other } else { other + 1 }))
+}
+
+/// A byte past the name, often the first or the last; a name of 32 bytes is shortened.
+fn past_name(call: &mut Call, random: &mut Random) {
+    let size = usize::from(call[SIZE.0] & 0x7f).min(31);
+    call[SIZE.0] = size as u8;
+    let any = random.between(size, 31);
+    let at = *random.pick(&[size, 31, any]);
+    call[NAME.0 + at] = 1 << random.below(8);
+}
+
+fn taken_slot(parts: &mut Parts, _: &Roster, random: &mut Random) -> bool {
+    let Some((one, other)) = two(parts, random) else {
+        return false;
+    };
+    parts.calls[other][SLOT.0] = parts.calls[one][SLOT.0];
+    true
+}
+
+/// Listed, or next to a listed one.
+pub fn some_sender(roster: &Roster, random: &mut Random) -> u32 {
+    let listed = random.pick(&roster.records).address;
+    let near = listed ^ 1 << random.below(32);
+    *random.pick(&[listed, near])
+}
+
+fn sender(parts: &mut Parts, roster: &Roster, random: &mut Random) -> bool {
+    let Some(number) = parts.some_call(random) else {
+        return false;
+    };
+    set(&mut parts.calls[number], SENDER, some_sender(roster, random));
+    true
+}
+
+/// The second call is moved into the first one's pair, if it is not there yet, and gets its short ID.
+fn short_id(parts: &mut Parts, _: &Roster, random: &mut Random) -> bool {
+    let Some((one, other)) = two(parts, random) else {
+        return false;
+    };
+    let call = parts.calls[one];
+    let (endpoint, sender) = pair(&call);
+    set(&mut parts.calls[other], ENDPOINT, endpoint);
+    set(&mut parts.calls[other], SENDER, sender);
+    set(&mut parts.calls[other], ID, get(&call, ID));
+    true
+}
+
+fn repeated(parts: &mut Parts, _: &Roster, random: &mut Random) -> bool {
+    let Some(number) = parts.some_call(random) else {
+        return false;
+    };
+    let call = parts.calls[number];
+    let place = random.between(0, parts.calls.len());
+    parts.calls.insert(place, call);
+    true
+}
+
+fn swapped(parts: &mut Parts, _: &Roster, random: &mut Random) -> bool {
+    let Some((one, other)) = two(parts, random) else {
+        return false;
+    };
+    parts.calls.swap(one, other);
+    true
+}
+
+fn taken_out(parts: &mut Parts, _: &Roster, random: &mut Random) -> bool {
+    let Some(number) = parts.some_call(random) else {
+        return false;
+    };
+    parts.calls.remove(number);
+    true
+}
+
+/// Up to seventy new calls of one customer, mostly in free slots, so that limit and S are reached.
+fn more(parts: &mut Parts, roster: &Roster, random: &mut Random) -> bool {
+    let sender = random.pick(&roster.records).address;
+    let mut slots: Vec<u8> = (0..64).collect();
+    random.shuffle(&mut slots);
+    if random.chance(3, 4) {
+        slots.retain(|&slot| parts.calls.iter().all(|call| call[SLOT.0] != slot));
+    }
+    let most = *random.pick(&[2, 8, 70]);
+    slots.truncate(random.between(1, most));
+    for slot in slots {
+        let call = fresh(slot, sender, random);
+        let place = random.between(0, parts.calls.len());
+        parts.calls.insert(place, call);
+    }
+    true
+}
+
+/// A call that breaks no rule alone.
+pub fn fresh(slot: u8, sender: u32, random: &mut Random) -> Call {
+    let mut call = [0; CALL];
+    call[SLOT.0] = slot;
+    set(&mut call, ID, 1 + u32::from(random.half() >> 1));
+    set(&mut call, ENDPOINT, *random.pick(&[0x0a00_0063, sender, 0]));
+    set(&mut call, SENDER, sender);
+    let size = random.between(8, 32);
+    call[SIZE.0] = size as u8;
+    random.fill(&mut call[NAME.0..][..size]);
+    call
+}

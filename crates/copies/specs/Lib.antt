@@ -1,0 +1,4 @@
+pub mod Layout
+pub mod Salvage
+pub mod Restored
+pub mod Places

@@ -1,0 +1,132 @@
+-- `print_table` is safe and ends: the slots, and the customers.
+use Prim.Native.Nat.{_≤_, _-_}
+use borrow.Author.Needs.{needs}
+use Rattle.restore.proofs.print_table.Statement.{statement}
+use Rattle.restore.proofs.print_table.Tie as tie
+
+abbrev Inv-loop : tie.InvT-loop
+Inv-loop t i₀ i = i ≤ 64
+
+abbrev μ-loop : tie.MeasureT-loop
+μ-loop t i₀ i = 64 - i
+
+abbrev Inv-loop2 : tie.InvT-loop2
+Inv-loop2 t i m₀ m = m ≤ 64
+
+abbrev μ-loop2 : tie.MeasureT-loop2
+μ-loop2 t i m₀ m = 64 - m
+
+abbrev Inv-loop3 : tie.InvT-loop3
+Inv-loop3 t i m k₀ k = k ≤ 8
+
+abbrev μ-loop3 : tie.MeasureT-loop3
+μ-loop3 t i m k₀ k = 8 - k
+
+loop-holds : tie.Need-loop-holds Inv-loop μ-loop Inv-loop2 μ-loop2 Inv-loop3 μ-loop3
+loop-holds c = search needs
+
+mul-c : tie.Need-mul-c Inv-loop μ-loop Inv-loop2 μ-loop2 Inv-loop3 μ-loop3
+mul-c c = search needs
+
+element-copy-out-c :
+    tie.Need-element-copy-out-c Inv-loop μ-loop Inv-loop2 μ-loop2 Inv-loop3 μ-loop3
+element-copy-out-c c = search needs
+
+shr-if1 : tie.Need-shr-if1 Inv-loop μ-loop Inv-loop2 μ-loop2 Inv-loop3 μ-loop3
+shr-if1 c = search needs
+
+print-call-requires :
+    tie.Need-print-call-requires Inv-loop μ-loop Inv-loop2 μ-loop2 Inv-loop3 μ-loop3
+print-call-requires c κs = search needs
+
+add-i : tie.Need-add-i Inv-loop μ-loop Inv-loop2 μ-loop2 Inv-loop3 μ-loop3
+add-i c = search needs
+
+loop-less : tie.Need-loop-less Inv-loop μ-loop Inv-loop2 μ-loop2 Inv-loop3 μ-loop3
+loop-less c = search needs
+
+loop-again : tie.Need-loop-again Inv-loop μ-loop Inv-loop2 μ-loop2 Inv-loop3 μ-loop3
+loop-again c = search needs
+
+loop2-holds : tie.Need-loop2-holds Inv-loop μ-loop Inv-loop2 μ-loop2 Inv-loop3 μ-loop3
+loop2-holds c = search needs
+
+mul-c-2 : tie.Need-mul-c-2 Inv-loop μ-loop Inv-loop2 μ-loop2 Inv-loop3 μ-loop3
+mul-c-2 c = search needs
+
+element-copy-out-c-2 :
+    tie.Need-element-copy-out-c-2 Inv-loop μ-loop Inv-loop2 μ-loop2 Inv-loop3 μ-loop3
+element-copy-out-c-2 c = search needs
+
+print-under-requires :
+    tie.Need-print-under-requires Inv-loop μ-loop Inv-loop2 μ-loop2 Inv-loop3 μ-loop3
+print-under-requires c κs = search needs
+
+add-m : tie.Need-add-m Inv-loop μ-loop Inv-loop2 μ-loop2 Inv-loop3 μ-loop3
+add-m c = search needs
+
+loop2-less : tie.Need-loop2-less Inv-loop μ-loop Inv-loop2 μ-loop2 Inv-loop3 μ-loop3
+loop2-less c = search needs
+
+loop2-again : tie.Need-loop2-again Inv-loop μ-loop Inv-loop2 μ-loop2 Inv-loop3 μ-loop3
+loop2-again c = search needs
+
+loop3-holds : tie.Need-loop3-holds Inv-loop μ-loop Inv-loop2 μ-loop2 Inv-loop3 μ-loop3
+loop3-holds c = search needs
+
+mul-c-3 : tie.Need-mul-c-3 Inv-loop μ-loop Inv-loop2 μ-loop2 Inv-loop3 μ-loop3
+mul-c-3 c = search needs
+
+element-copy-out-c-3 :
+    tie.Need-element-copy-out-c-3 Inv-loop μ-loop Inv-loop2 μ-loop2 Inv-loop3 μ-loop3
+element-copy-out-c-3 c = search needs
+
+print-loose-requires :
+    tie.Need-print-loose-requires Inv-loop μ-loop Inv-loop2 μ-loop2 Inv-loop3 μ-loop3
+print-loose-requires c κs = search needs
+
+add-k : tie.Need-add-k Inv-loop μ-loop Inv-loop2 μ-loop2 Inv-loop3 μ-loop3
+add-k c = search needs
+
+loop3-less : tie.Need-loop3-less Inv-loop μ-loop Inv-loop2 μ-loop2 Inv-loop3 μ-loop3
+loop3-less c = search needs
+
+loop3-again : tie.Need-loop3-again Inv-loop μ-loop Inv-loop2 μ-loop2 Inv-loop3 μ-loop3
+loop3-again c = search needs
+
+returns : tie.Need-returns Inv-loop μ-loop Inv-loop2 μ-loop2 Inv-loop3 μ-loop3
+returns c = search needs
+
+pub print-table-spec : {M : Type 1} → statement M
+print-table-spec =
+    tie.close
+    (tie.spec
+    Inv-loop
+    μ-loop
+    Inv-loop2
+    μ-loop2
+    Inv-loop3
+    μ-loop3
+    loop-holds
+    mul-c
+    element-copy-out-c
+    shr-if1
+    print-call-requires
+    add-i
+    loop-less
+    loop-again
+    loop2-holds
+    mul-c-2
+    element-copy-out-c-2
+    print-under-requires
+    add-m
+    loop2-less
+    loop2-again
+    loop3-holds
+    mul-c-3
+    element-copy-out-c-3
+    print-loose-requires
+    add-k
+    loop3-less
+    loop3-again
+    returns)

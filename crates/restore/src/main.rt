@@ -1,0 +1,218 @@
+// Reads a table back: three frames on standard input, a 32-bit length and that many bytes each: a mode byte (0 plain, 1 salvage), the
+// roster, the copy. It prints the roster's answer, the copy's with how many records were dropped, and what the table then holds. A cut frame
+// prints `cut` and ends it.
+ghost use mathlib.Core.Path.{_≡_};
+ghost use Prim.Native.Nat.{_≤_, min};
+use libc::STDIN_FILENO;
+use libc::STDOUT_FILENO;
+use lists::widened;
+use numbers::big_endian::get32;
+use restoring::restore;
+use rosters::read_roster;
+use table::answer::roster_number;
+use table::state::Call;
+use table::state::Customer;
+use table::state::Table;
+use table::state::name_size;
+
+enum Frame {
+    Cut,
+    Whole(usize),
+}
+
+fn smaller(a: usize, b: usize) -> usize
+    ensures { λ r. ⌜ (r ≡ min a b) × (r ≤ a) × (r ≤ b) ⌝ }
+{
+    if a < b { a } else { b }
+}
+
+// Reads over what does not fit the space: no roster is so long, and no table writes so long a copy.
+fn skip(size: usize) -> bool {
+    let mut left = size;
+    while 0 < left {
+        let mut scratch = io::buffer();
+        let n = smaller(left, 4096);
+        if io::read_full(STDIN_FILENO, &mut scratch[..n]) < n {
+            return false;
+        }
+        left -= n;
+    }
+    true
+}
+
+// The next frame, at the front of the space, as much of it as fits.
+fn next_frame(space: &mut [u8]) -> Frame {
+    let mut head = [0u8; 4];
+    if io::read_full(STDIN_FILENO, &mut head) < 4 {
+        return Frame::Cut;
+    }
+    let size = get32(&head, 0) as usize;
+    let kept = smaller(size, space.len());
+    if io::read_full(STDIN_FILENO, &mut space[..kept]) < kept {
+        return Frame::Cut;
+    }
+    if skip(size - kept) {
+        return Frame::Whole(kept);
+    }
+    Frame::Cut
+}
+
+fn print_text(text: &[u8]) {
+    io::write_all(STDOUT_FILENO, text);
+}
+
+fn print_number(n: u64) {
+    print_text(b" ");
+    io::print_decimal(STDOUT_FILENO, n);
+}
+
+fn print_address(a: u32) {
+    print_number((a / 16777216) as u64);
+    print_text(b".");
+    io::print_decimal(STDOUT_FILENO, (a / 65536 % 256) as u64);
+    print_text(b".");
+    io::print_decimal(STDOUT_FILENO, (a / 256 % 256) as u64);
+    print_text(b".");
+    io::print_decimal(STDOUT_FILENO, (a % 256) as u64);
+}
+
+fn print_call(slot: usize, c: Call) {
+    print_text(b"call");
+    print_number(slot as u64);
+    print_address(c.endpoint);
+    print_address(c.sender);
+    print_number(c.id.0 as u64);
+    print_text(b" ");
+    let n = name_size(c.size);
+    let mut k: usize = 0;
+    while k < n {
+        io::print_hex(STDOUT_FILENO, widened(c.name[k]) as u64, 2);
+        k += 1;
+    }
+    print_text(b"\n");
+}
+
+fn print_connection(endpoint: u32, short: u16, tunnel: u16, extended: u32, sender: u32, lsp: u16) {
+    print_text(b"connection");
+    print_address(endpoint);
+    print_number(short as u64);
+    print_number(tunnel as u64);
+    print_number(extended as u64);
+    print_address(sender);
+    print_number(lsp as u64);
+    print_text(b"\n");
+}
+
+fn print_under(c: Call) {
+    let mut j: usize = 0;
+    while j < 4 {
+        let p = c.places[j];
+        if p.taken {
+            print_connection(
+                c.endpoint,
+                c.id.0,
+                p.tunnel.0,
+                p.extended,
+                c.sender,
+                p.lsp.0,
+            );
+        }
+        j += 1;
+    }
+}
+
+fn print_loose(m: Customer) {
+    let mut j: usize = 0;
+    while j < 4 {
+        let p = m.places[j];
+        if p.taken {
+            print_connection(p.endpoint, 0, p.tunnel.0, p.extended, m.address, p.lsp.0);
+        }
+        j += 1;
+    }
+}
+
+// Calls in slot order, connections in the order of a copy. Free slots and unused records hold no connections.
+fn print_table(t: Table) {
+    let mut i: usize = 0;
+    while i < 64 {
+        let c = t.calls[i];
+        if (t.occupied >> i) % 2 == 1 {
+            print_call(i, c);
+        }
+        i += 1;
+    }
+    let mut m: usize = 0;
+    while m < 64 {
+        let c = t.calls[m];
+        print_under(c);
+        m += 1;
+    }
+    let mut k: usize = 0;
+    while k < 8 {
+        let c = t.customers[k];
+        print_loose(c);
+        k += 1;
+    }
+}
+
+fn read_table(salvage: bool, roster: &[u8], copy: &[u8]) {
+    let first = read_roster(roster);
+    let answer = first.answer;
+    print_text(b"roster");
+    print_number(roster_number(answer) as u64);
+    print_text(b"\ncopy");
+    let r = restore(salvage, roster, copy);
+    let table = r.table;
+    print_number(r.answer as u64);
+    print_number(r.calls as u64);
+    print_number(r.connections as u64);
+    print_text(b"\n");
+    print_table(table);
+}
+
+// Salvage is asked for by a mode byte of 1.
+fn is_salvage(mode: &[u8]) -> bool {
+    if mode.len() < 1 {
+        return false;
+    }
+    mode[0] == 1
+}
+
+// The roster and the copy, in the first bytes of their spaces.
+fn read_parts(salvage: bool, roster: &[u8], listed: usize, copy: &[u8], copied: usize) {
+    if roster.len() < listed {
+        return;
+    }
+    if copy.len() < copied {
+        return;
+    }
+    read_table(salvage, &roster[..listed], &copy[..copied]);
+}
+
+// The three frames; false where one is cut.
+fn read_frames(mode: &mut [u8], roster: &mut [u8], copy: &mut [u8]) -> bool {
+    let a = next_frame(mode);
+    let Frame::Whole(_) = a else {
+        return false;
+    };
+    let b = next_frame(roster);
+    let Frame::Whole(listed) = b else {
+        return false;
+    };
+    let c = next_frame(copy);
+    let Frame::Whole(copied) = c else {
+        return false;
+    };
+    read_parts(is_salvage(mode), roster, listed, copy, copied);
+    true
+}
+
+fn main() {
+    let mut mode = [0u8; 1];
+    let mut roster = io::buffer();
+    let mut copy = io::large_buffer();
+    if !read_frames(&mut mode, &mut roster, &mut copy) {
+        print_text(b"cut\n");
+    }
+}

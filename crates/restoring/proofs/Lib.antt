@@ -1,0 +1,5 @@
+pub mod Tests
+pub mod Named
+pub mod Best
+pub mod Fitting
+pub mod Answered

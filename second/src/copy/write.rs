@@ -1,0 +1,71 @@
+//! A13: writing a copy. Refusals: 1, then 73.
+
+use std::collections::BTreeMap;
+
+use super::layout::{CallRecord, ConnectionRecord, Head, FORM};
+use crate::node::{Holder, Node};
+use crate::table::{Call, Table};
+
+/// Writes a copy to the front of the buffer: 0 and its length, or 1 or 73, length 0 and the buffer as it was.
+pub fn write_copy(table: &Table, buffer: &mut [u8]) -> (u8, usize) {
+    let Some(node) = Node::from_table(table) else {
+        return (1, 0);
+    };
+    let copy = copy_of(&node);
+    match buffer.get_mut(..copy.len()) {
+        Some(front) => {
+            front.copy_from_slice(&copy);
+            (0, copy.len())
+        }
+        None => (73, 0),
+    }
+}
+
+fn copy_of(node: &Node) -> Vec<u8> {
+    let (calls, connections) = (calls_in_order(node), connections_in_order(node));
+    let head = Head {
+        form: FORM,
+        calls: calls.len(),
+        connections: connections.len(),
+    };
+    let mut copy = Vec::with_capacity(head.length());
+    copy.extend(head.bytes());
+    calls.values().for_each(|record| record.put(&mut copy));
+    connections
+        .values()
+        .for_each(|record| record.put(&mut copy));
+    copy
+}
+
+/// The calls by slot.
+fn calls_in_order(node: &Node) -> BTreeMap<usize, CallRecord> {
+    let mut records = BTreeMap::new();
+    for (&(pair, id), open) in &node.calls {
+        let call = Call {
+            endpoint: pair.endpoint,
+            sender: pair.sender,
+            id,
+            size: open.name.size,
+            name: open.name.bytes,
+            ..Call::FREE
+        };
+        let slot = open.slot as u8;
+        records.insert(open.slot, CallRecord { slot, call });
+    }
+    records
+}
+
+/// The connections by slot and place, then those of Call ID 0 by customer and place.
+fn connections_in_order(node: &Node) -> BTreeMap<(bool, usize, usize), ConnectionRecord> {
+    let mut records = BTreeMap::new();
+    for (&connection, home) in &node.connections {
+        let (loose, whose) = match home.holder {
+            Holder::Call { slot, .. } => (false, slot),
+            Holder::Customer(customer) => (true, customer),
+        };
+        let call = home.holder.call_id();
+        let record = ConnectionRecord { call, connection };
+        records.insert((loose, whose, home.place), record);
+    }
+    records
+}
