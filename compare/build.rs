@@ -1,20 +1,31 @@
-//! Links the first program's static library. CHAFFMOOR_LIB names the folder that libchaffmoor.a is in. With the
-//! feature `stand_in` nothing is linked.
+//! Links the static library that the package needs, for the packages `compare` and `bench`. CHAFFMOOR_LIB names the
+//! folder that the libraries are in; without it, that is where `rt staticlib` leaves them. With the feature `stand_in`
+//! nothing is linked.
 
-use std::path::Path;
+use std::env;
+use std::path::{Path, PathBuf};
 
 fn main() {
-    if std::env::var_os("CARGO_FEATURE_STAND_IN").is_some() {
+    if env::var_os("CARGO_FEATURE_STAND_IN").is_some() {
         return;
     }
     println!("cargo:rerun-if-env-changed=CHAFFMOOR_LIB");
-    let folder = std::env::var("CHAFFMOOR_LIB").expect("set CHAFFMOOR_LIB to the folder that libchaffmoor.a is in");
-    let archive = Path::new(&folder).join("libchaffmoor.a");
+    let package = env::var("CARGO_PKG_NAME").expect("cargo names the package");
+    let library = match package.as_str() {
+        "bench" => "bench_parts",
+        _ => "chaffmoor",
+    };
+    let archive = folder().join(format!("lib{library}.a"));
     println!("cargo:rerun-if-changed={}", archive.display());
     let archive = archive
         .canonicalize()
-        .unwrap_or_else(|error| panic!("{}: {error}", archive.display()));
-    let folder = archive.parent().expect("an archive stands in a folder");
+        .unwrap_or_else(|error| panic!("{}: {error}; tests/libraries builds it", archive.display()));
+    let folder = archive.parent().expect("an archive is in a folder");
     println!("cargo:rustc-link-search=native={}", folder.display());
-    println!("cargo:rustc-link-lib=static=chaffmoor");
+    println!("cargo:rustc-link-lib=static={library}");
+}
+
+/// Every package is a folder of the repository.
+fn folder() -> PathBuf {
+    env::var_os("CHAFFMOOR_LIB").map_or_else(|| Path::new("../target/staticlib").to_path_buf(), PathBuf::from)
 }

@@ -11,8 +11,8 @@ fn rounds() -> usize {
     }
 }
 
-/// How long one round of one program should take.
-const ROUND: f64 = 0.002;
+/// How long one round of one program should take, in nanoseconds.
+const ROUND: f64 = 2e6;
 
 /// Nanoseconds per turn of each.
 pub fn in_turns(first: &mut dyn FnMut() -> u64, second: &mut dyn FnMut() -> u64) -> (f64, f64) {
@@ -25,10 +25,16 @@ pub fn in_turns(first: &mut dyn FnMut() -> u64, second: &mut dyn FnMut() -> u64)
     best
 }
 
+/// Nanoseconds per turn of one program alone.
+pub fn alone(run: &mut dyn FnMut() -> u64) -> f64 {
+    let turns = turns(run);
+    (0..rounds()).map(|_| round(run, turns)).fold(f64::INFINITY, f64::min)
+}
+
 /// How many turns fill a round.
 fn turns(run: &mut dyn FnMut() -> u64) -> u32 {
     let one = round(run, 100);
-    ((ROUND * 1e9 / one) as u32).max(1)
+    ((ROUND / one) as u32).max(1)
 }
 
 fn round(run: &mut dyn FnMut() -> u64, turns: u32) -> f64 {

@@ -1,5 +1,5 @@
-//! How much stack the proved program needs: memory below this frame is painted, a message is handled, and the lowest byte that
-//! has lost its paint is looked for.
+//! How much stack a call into the proved program needs: memory below this frame is painted, the call is made, and the
+//! lowest byte that has lost its paint is looked for.
 
 use std::hint::black_box;
 
@@ -8,23 +8,25 @@ const PAINT: u8 = 0xa5;
 
 /// Bytes of stack that `run` used below the caller's frame.
 pub fn used(run: impl FnOnce() + Send) -> usize {
-    std::thread::scope(|scope| {
+    let used = std::thread::scope(|scope| {
         let thread = std::thread::Builder::new().stack_size(4 * SIZE);
         let handle = thread.spawn_scoped(scope, || below(run)).expect("a thread");
         handle.join().expect("the thread ends")
-    })
+    });
+    assert!(used < SIZE, "more stack was used than was painted");
+    used
 }
 
 #[inline(never)]
 fn below(run: impl FnOnce()) -> usize {
     let base = paint();
     run();
-    let mut touched = 0;
+    let mut untouched = 0;
     // SAFETY: the bytes lie in this thread's stack, below this frame, where `paint` has written.
-    while touched < SIZE && unsafe { std::ptr::read_volatile((base + touched) as *const u8) } == PAINT {
-        touched += 1;
+    while untouched < SIZE && unsafe { std::ptr::read_volatile((base + untouched) as *const u8) } == PAINT {
+        untouched += 1;
     }
-    SIZE - touched
+    SIZE - untouched
 }
 
 #[inline(never)]

@@ -55,7 +55,7 @@ pub fn message(tables: (&Table, &Table), message: &[u8], buffer: usize, random: 
     })
 }
 
-/// The buffers are equal, and hold their old bytes but in the reply or copy.
+/// The buffers are equal, and hold their old bytes but in the reply or checkpoint.
 pub(crate) fn same_buffers(one: &[u8], other: &[u8], old: &[u8], length: usize) -> Result<(), String> {
     if let Some(found) = difference::of_bytes(one, other, GUARD) {
         return Err(format!("buffers differ first in {found}"));

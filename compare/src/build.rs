@@ -323,7 +323,8 @@ mod tests {
     #[test]
     fn checksum_of_the_tap_example() {
         let mut reply = bytes(
-            "10030000ff000030 00100107 0a000002 0005 0001 0a000001 000c0601 0a000002 00200003 000c0b07 0a000001 0000 0001",
+            "10030000ff000030 00100107 0a000002 0005 0001 0a000001 000c0601 0a000002 00200003 \
+             000c0b07 0a000001 0000 0001",
         );
         write_sum(&mut reply, Sum::Right);
         assert_eq!(reply[2..4], [0xb6, 0x64]);

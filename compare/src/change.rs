@@ -2,7 +2,7 @@
 //! elsewhere in the table.
 
 use crate::random::Random;
-use second::table::{Call, Customer, LoosePlace, Place, Table};
+use second::table::{Call, Customer, Place, StandalonePlace, Table};
 
 pub fn one_field(table: &mut Table, random: &mut Random) {
     let (customers, calls) = (table.customers, table.calls);
@@ -33,7 +33,7 @@ fn of_customer(customer: &mut Customer, other: &Customer, random: &mut Random) {
         2 => number(&mut customer.limit, &[other.limit, customer.guarantee, 64], random),
         _ => {
             let place = random.below(4);
-            of_loose(&mut customer.places[place], random.pick(&other.places), random);
+            of_standalone(&mut customer.places[place], random.pick(&other.places), random);
         }
     }
 }
@@ -71,7 +71,7 @@ fn of_place(place: &mut Place, other: &Place, random: &mut Random) {
     }
 }
 
-fn of_loose(place: &mut LoosePlace, other: &LoosePlace, random: &mut Random) {
+fn of_standalone(place: &mut StandalonePlace, other: &StandalonePlace, random: &mut Random) {
     match random.below(6) {
         0 => place.taken = !place.taken,
         1 => number(&mut place.endpoint, &[other.endpoint], random),

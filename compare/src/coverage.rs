@@ -194,12 +194,12 @@ fn added(step: &Step, tally: &mut Tally) {
     let calls = before.calls.iter().zip(&after.calls);
     let fours = calls.map(|(old, new)| (old.places.map(|p| p.taken), new.places.map(|p| p.taken)));
     let customers = before.customers.iter().zip(&after.customers);
-    let loose = customers.map(|(old, new)| (old.places.map(|p| p.taken), new.places.map(|p| p.taken)));
+    let standalone = customers.map(|(old, new)| (old.places.map(|p| p.taken), new.places.map(|p| p.taken)));
     let below = |(old, new): ([bool; 4], [bool; 4])| {
         let taken = (0..4).find(|&place| old[place] != new[place]);
         taken.is_some_and(|place| old[place + 1..].contains(&true))
     };
-    if fours.chain(loose).any(below) {
+    if fours.chain(standalone).any(below) {
         tally.situation("23 into a place below a taken one");
     }
 }

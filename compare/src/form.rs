@@ -36,13 +36,13 @@ const SKIPPED: [u8; 16] = [0, 3, 4, 5, 12, 13, 14, 19, 20, 21, 24, 34, 35, 36, 3
 type Found<'a> = [Vec<&'a [u8]>; 6];
 
 pub fn read<'a>(message: &'a [u8], buffer: usize, listed: &[u32]) -> Form<'a> {
-    match judged(message, buffer, listed) {
+    match tested(message, buffer, listed) {
         Ok(form) => form,
         Err(fault) => Form::Fault(fault),
     }
 }
 
-fn judged<'a>(message: &'a [u8], buffer: usize, listed: &[u32]) -> Result<Form<'a>, u8> {
+fn tested<'a>(message: &'a [u8], buffer: usize, listed: &[u32]) -> Result<Form<'a>, u8> {
     if buffer < 128 {
         return Err(2);
     }

@@ -6,7 +6,7 @@ use crate::build::{self, Connection};
 use crate::random::Random;
 use crate::rosters::{self, Shape};
 use crate::trials::hex;
-use crate::world::World;
+use crate::values::Values;
 use second::table::Table;
 
 /// Both programs' tables.
@@ -19,7 +19,7 @@ pub struct Tables {
 /// A roster of eight, its fresh table and its full one.
 pub struct Full {
     pub roster: Vec<u8>,
-    pub world: World,
+    pub values: Values,
     pub fresh: Tables,
     pub full: Tables,
 }
@@ -29,7 +29,7 @@ const ENDPOINT: u32 = 0x0a00_0063;
 impl Full {
     pub fn new(random: &mut Random) -> Result<Full, String> {
         let roster = rosters::shaped(Shape::Eight, random);
-        let world = World::new(&roster, random);
+        let values = Values::new(&roster, random);
         let (_, first, second) = both::roster(&roster.bytes())?;
         let fresh = Tables { first, second };
         let mut full = fresh;
@@ -39,7 +39,7 @@ impl Full {
         let roster = roster.bytes();
         Ok(Full {
             roster,
-            world,
+            values,
             fresh,
             full,
         })

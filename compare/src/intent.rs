@@ -4,7 +4,7 @@
 use crate::build::{Connection, Fields, C, D, NOTIFY, PATH, PATH_TEAR, R};
 use crate::random::Random;
 use crate::tables;
-use crate::world::World;
+use crate::values::Values;
 use second::table::{Call, Table};
 
 #[derive(Clone, Copy, Debug, PartialEq, Eq, PartialOrd, Ord)]
@@ -26,7 +26,7 @@ pub enum Intent {
     PathHeld,
     PathMoved,
     PathUnknown,
-    PathLoose,
+    PathStandalone,
     PathCrowded,
     PathBeside,
     PathAny,
@@ -50,7 +50,7 @@ pub const FILL: Mode = &[
     (2, OpenSwapped),
     (4, CloseIdle),
     (8, PathNew),
-    (4, PathLoose),
+    (4, PathStandalone),
     (2, TearHeld),
 ];
 
@@ -72,7 +72,7 @@ pub const CHURN: Mode = &[
     (5, PathHeld),
     (5, PathMoved),
     (4, PathUnknown),
-    (4, PathLoose),
+    (4, PathStandalone),
     (3, PathCrowded),
     (4, PathBeside),
     (4, PathAny),
@@ -89,7 +89,7 @@ pub const CONNECT: Mode = &[
     (8, PathHeld),
     (8, PathMoved),
     (4, PathUnknown),
-    (12, PathLoose),
+    (12, PathStandalone),
     (16, PathCrowded),
     (4, PathBeside),
     (4, PathAny),
@@ -113,9 +113,9 @@ pub const DRAIN: Mode = &[
 
 pub const MODES: [(usize, Mode); 4] = [(4, FILL), (4, CHURN), (3, CONNECT), (1, DRAIN)];
 
-/// The message's type and fields for this intent. Where the table has nothing to aim at, any fields do.
-pub fn fields(intent: Intent, world: &World, table: &Table, random: &mut Random) -> (u8, Fields) {
-    let any = any_fields(world, random);
+/// The message's type and fields for this intent. Where the table has nothing of the kind, any fields do.
+pub fn fields(intent: Intent, values: &Values, table: &Table, random: &mut Random) -> (u8, Fields) {
+    let any = any_fields(values, random);
     match intent {
         CloseIdle | CloseOpen | CloseCrossed | CloseElsewhere | CloseAny => {
             let mut fields = closing(intent, any, table, random);
@@ -123,23 +123,23 @@ pub fn fields(intent: Intent, world: &World, table: &Table, random: &mut Random)
             (NOTIFY, fields)
         }
         TearHeld | TearBeside | TearAny => (PATH_TEAR, tearing(intent, any, table, random)),
-        PathNew | PathHeld | PathMoved | PathUnknown | PathLoose | PathCrowded | PathBeside | PathAny => {
-            (PATH, connecting(intent, any, world, table, random))
+        PathNew | PathHeld | PathMoved | PathUnknown | PathStandalone | PathCrowded | PathBeside | PathAny => {
+            (PATH, connecting(intent, any, values, table, random))
         }
-        _ => (NOTIFY, opening(intent, any, world, table, random)),
+        _ => (NOTIFY, opening(intent, any, values, table, random)),
     }
 }
 
 /// Fields drawn from the stream's few.
-fn any_fields(world: &World, random: &mut Random) -> Fields {
+fn any_fields(values: &Values, random: &mut Random) -> Fields {
     Fields {
-        endpoint: *random.pick(&world.endpoints),
-        call: *random.pick(&world.ids),
-        tunnel: *random.pick(&world.tunnels),
-        extended: *random.pick(&world.extended),
-        sender: *random.pick(&world.senders),
-        lsp: *random.pick(&world.lsps),
-        name: random.pick(&world.names).clone(),
+        endpoint: *random.pick(&values.endpoints),
+        call: *random.pick(&values.ids),
+        tunnel: *random.pick(&values.tunnels),
+        extended: *random.pick(&values.extended),
+        sender: *random.pick(&values.senders),
+        lsp: *random.pick(&values.lsps),
+        name: random.pick(&values.names).clone(),
         epoch: random.word() >> 8,
         identifier: random.word(),
         status: R | C,
@@ -147,9 +147,9 @@ fn any_fields(world: &World, random: &mut Random) -> Fields {
     }
 }
 
-fn opening(intent: Intent, mut fields: Fields, world: &World, table: &Table, random: &mut Random) -> Fields {
+fn opening(intent: Intent, mut fields: Fields, values: &Values, table: &Table, random: &mut Random) -> Fields {
     if intent == OpenNew {
-        return unused(fields, world, table, random);
+        return unused(fields, values, table, random);
     }
     let Some(call) = tables::some_call(table, random) else {
         return fields;
@@ -184,15 +184,15 @@ fn swapped(mut fields: Fields, table: &Table, random: &mut Random) -> Fields {
 }
 
 /// IDs that the pair does not use, if a few draws find them.
-fn unused(mut fields: Fields, world: &World, table: &Table, random: &mut Random) -> Fields {
+fn unused(mut fields: Fields, values: &Values, table: &Table, random: &mut Random) -> Fields {
     for _ in 0..24 {
         let pair = (fields.endpoint, fields.sender);
         if tables::in_use(table, pair, fields.call, &fields.name) == (false, false) {
             break;
         }
-        fields.endpoint = *random.pick(&world.endpoints);
-        fields.call = *random.pick(&world.ids);
-        fields.name.clone_from(random.pick(&world.names));
+        fields.endpoint = *random.pick(&values.endpoints);
+        fields.call = *random.pick(&values.ids);
+        fields.name.clone_from(random.pick(&values.names));
     }
     fields
 }
@@ -218,7 +218,7 @@ fn closing(intent: Intent, mut fields: Fields, table: &Table, random: &mut Rando
     fields
 }
 
-fn connecting(intent: Intent, mut fields: Fields, world: &World, table: &Table, random: &mut Random) -> Fields {
+fn connecting(intent: Intent, mut fields: Fields, values: &Values, table: &Table, random: &mut Random) -> Fields {
     let call = tables::some_call(table, random);
     match (intent, call) {
         (PathHeld | PathMoved, _) => {
@@ -229,8 +229,8 @@ fn connecting(intent: Intent, mut fields: Fields, world: &World, table: &Table, 
             }
         }
         (PathBeside, _) => fields = beside(fields, table, random),
-        (PathLoose, _) => fields.call = 0,
-        (PathCrowded, _) => crowd(&mut fields, world, table, random),
+        (PathStandalone, _) => fields.call = 0,
+        (PathCrowded, _) => crowd(&mut fields, values, table, random),
         (PathNew, Some(call)) => {
             take_pair(&mut fields, &call);
             fields.call = call.id;
@@ -280,7 +280,7 @@ fn beside(fields: Fields, table: &Table, random: &mut Random) -> Fields {
 }
 
 /// One more connection where there are most already: under the fullest call, or with a customer.
-fn crowd(fields: &mut Fields, world: &World, table: &Table, random: &mut Random) {
+fn crowd(fields: &mut Fields, values: &Values, table: &Table, random: &mut Random) {
     fields.lsp = random.half();
     let places = |call: &&Call| call.places.iter().filter(|place| place.taken).count();
     match tables::calls(table).max_by_key(places) {
@@ -290,7 +290,7 @@ fn crowd(fields: &mut Fields, world: &World, table: &Table, random: &mut Random)
         }
         _ => {
             fields.call = 0;
-            fields.sender = world.senders[0];
+            fields.sender = values.senders[0];
         }
     }
 }

@@ -1,19 +1,17 @@
 //! Compares the proved program (first, through its C interface) with the second program, which was written from
-//! document 01 by itself. The generator and the ledger here are written from 01 as well. Copies (A13)
-//! are behind the feature `copies`.
+//! documents 01 and 02 by itself. The generator and the ledger here are written from them as well.
 
-pub mod aim;
 pub mod both;
 pub mod breaks;
 pub mod build;
 pub mod captures;
 pub mod change;
-#[cfg(feature = "copies")]
-pub mod copies;
+pub mod checkpoints;
+pub mod checksums;
 pub mod coverage;
 pub mod damage;
 pub mod difference;
-pub mod dress;
+pub mod encode;
 pub mod first;
 pub mod form;
 pub mod full;
@@ -30,4 +28,4 @@ pub mod stream;
 pub mod tables;
 pub mod tally;
 pub mod trials;
-pub mod world;
+pub mod values;

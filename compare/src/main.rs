@@ -1,6 +1,6 @@
-//! compare [SEED] [MESSAGES] [--captures FILE] [--copies N]: exit 0 if the two programs agree on everything and all of
-//! 01's answers (with --copies, A13's too) came often enough, 1 if not, 2 if the arguments or the file cannot be read.
-//! --copies needs the feature `copies`.
+//! compare [SEED] [MESSAGES] [--captures FILE] [--checkpoints N]: exit 0 if the two programs agree on everything and
+//! all of 01's answers (with --checkpoints, A13's too) came often enough, 1 if not, 2 if the arguments or the file
+//! cannot be read.
 
 use compare::run;
 use std::process::ExitCode;
@@ -9,20 +9,20 @@ struct Arguments {
     seed: u64,
     messages: u64,
     captures: Option<String>,
-    copies: Option<u64>,
+    checkpoints: Option<u64>,
 }
 
 fn main() -> ExitCode {
     let arguments = match arguments(std::env::args().skip(1)) {
         Ok(arguments) => arguments,
         Err(what) => {
-            eprintln!("{what}\nusage: compare [SEED] [MESSAGES] [--captures FILE] [--copies N]");
+            eprintln!("{what}\nusage: compare [SEED] [MESSAGES] [--captures FILE] [--checkpoints N]");
             return ExitCode::from(2);
         }
     };
-    let lines = compared(&arguments).and_then(|line| Ok((line, copies(&arguments)?)));
+    let lines = compared(&arguments).and_then(|line| Ok((line, checkpoints(&arguments)?)));
     match lines {
-        Ok((line, copies)) => println!("{line}{copies}"),
+        Ok((line, checkpoints)) => println!("{line}{checkpoints}"),
         Err(what) => {
             println!("FAILED: {what}");
             return ExitCode::from(1);
@@ -34,20 +34,17 @@ fn main() -> ExitCode {
 fn arguments(mut words: impl Iterator<Item = String>) -> Result<Arguments, String> {
     let mut numbers = Vec::new();
     let mut captures = None;
-    let mut copies = None;
+    let mut checkpoints = None;
     while let Some(word) = words.next() {
         if word == "--captures" {
             let file = words.next().ok_or("--captures needs a file")?;
             let text = std::fs::read_to_string(&file).map_err(|error| format!("{file}: {error}"))?;
             captures = Some(text);
-        } else if word == "--copies" {
-            copies = Some(number(&words.next().ok_or("--copies needs a number")?)?);
+        } else if word == "--checkpoints" {
+            checkpoints = Some(number(&words.next().ok_or("--checkpoints needs a number")?)?);
         } else {
             numbers.push(number(&word)?);
         }
-    }
-    if copies.is_some() && cfg!(not(feature = "copies")) {
-        return Err("--copies: built without the feature `copies`".into());
     }
     if numbers.len() > 2 {
         return Err("too many numbers".into());
@@ -56,7 +53,7 @@ fn arguments(mut words: impl Iterator<Item = String>) -> Result<Arguments, Strin
         seed: numbers.first().copied().unwrap_or(4974),
         messages: numbers.get(1).copied().unwrap_or(240_000),
         captures,
-        copies,
+        checkpoints,
     })
 }
 
@@ -76,25 +73,18 @@ fn compared(arguments: &Arguments) -> Result<String, String> {
     ))
 }
 
-/// The line for copies, empty without --copies.
-#[cfg(feature = "copies")]
-fn copies(arguments: &Arguments) -> Result<String, String> {
-    let Some(count) = arguments.copies else {
+/// The line for checkpoints, empty without --checkpoints.
+fn checkpoints(arguments: &Arguments) -> Result<String, String> {
+    let Some(count) = arguments.checkpoints else {
         return Ok(String::new());
     };
-    let tally = compare::copies::run(arguments.seed, count)?;
+    let tally = compare::checkpoints::run(arguments.seed, count)?;
     tally.print();
     enough(tally.lacking())?;
     Ok(format!(
-        "\ncompared {} copies, {} round trips: equal",
-        tally.copies, tally.round_trips
+        "\ncompared {} checkpoints, {} round trips: equal",
+        tally.checkpoints, tally.round_trips
     ))
-}
-
-#[cfg(not(feature = "copies"))]
-fn copies(arguments: &Arguments) -> Result<String, String> {
-    assert!(arguments.copies.is_none(), "--copies is refused with the arguments");
-    Ok(String::new())
 }
 
 fn enough(lacking: Vec<String>) -> Result<(), String> {

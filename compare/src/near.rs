@@ -13,10 +13,13 @@ pub const NEAR_MISSES: &[(&str, Break)] = &[
     ("names a and a with a zero byte", names_alike),
     ("same connection at another end point", connection_elsewhere),
     ("same connection of another sender", connection_of_another),
-    ("same connection of Call ID 0 at another end point", loose_elsewhere),
-    ("same connection in one four at two end points", loose_twice),
-    ("same connection in two customers' fours", loose_of_another),
-    ("all-zero connection of Call ID 0, sender 0.0.0.0", zero_loose),
+    (
+        "same connection of Call ID 0 at another end point",
+        standalone_elsewhere,
+    ),
+    ("same connection in one four at two end points", standalone_twice),
+    ("same connection in two customers' fours", standalone_of_another),
+    ("all-zero connection of Call ID 0, sender 0.0.0.0", zero_standalone),
     ("all-zero connection under a call", zero_under),
     ("connections that differ in the Tunnel ID", |t, r| {
         differ(t, r, |place| place.tunnel ^= 1)
@@ -74,7 +77,7 @@ fn ids_swapped(table: &mut Table, random: &mut Random) -> bool {
         return false;
     };
     keep_calls(table, |slot, _| slot == one || slot == other);
-    drop_loose(table);
+    drop_standalone(table);
     copy_ids(table, one, other);
     let (sender, swapped) = (table.calls[one].sender, table.calls[other].sender);
     table.calls[one].endpoint = swapped;
@@ -119,7 +122,7 @@ fn connection_of_another(table: &mut Table, random: &mut Random) -> bool {
 }
 
 /// A call's connection in its sender's four, at an end point that no call has.
-fn loose_elsewhere(table: &mut Table, random: &mut Random) -> bool {
+fn standalone_elsewhere(table: &mut Table, random: &mut Random) -> bool {
     let Some(slot) = tables::some_used(table, random) else {
         return false;
     };
@@ -127,15 +130,15 @@ fn loose_elsewhere(table: &mut Table, random: &mut Random) -> bool {
     let endpoint = fresh_endpoint(table, random);
     let call = table.calls[slot];
     let customer = customer_of(table, call.sender);
-    table.customers[customer].places[random.below(4)] = loose(&call.places[place], endpoint);
+    table.customers[customer].places[random.below(4)] = standalone(&call.places[place], endpoint);
     true
 }
 
-fn loose_twice(table: &mut Table, random: &mut Random) -> bool {
+fn standalone_twice(table: &mut Table, random: &mut Random) -> bool {
     let Some(customer) = some_customer(table, random) else {
         return false;
     };
-    let place = some_loose(table, customer, random);
+    let place = some_standalone(table, customer, random);
     let endpoint = fresh_endpoint(table, random);
     let places = &mut table.customers[customer].places;
     let other = (place + random.between(1, 3)) % 4;
@@ -144,19 +147,19 @@ fn loose_twice(table: &mut Table, random: &mut Random) -> bool {
     true
 }
 
-fn loose_of_another(table: &mut Table, random: &mut Random) -> bool {
+fn standalone_of_another(table: &mut Table, random: &mut Random) -> bool {
     let Some((one, other)) = two_customers(table, random) else {
         return false;
     };
     let fresh = fresh_place(table, random);
-    let copy = loose(&fresh, fresh_endpoint(table, random));
+    let copy = standalone(&fresh, fresh_endpoint(table, random));
     table.customers[one].places[random.below(4)] = copy;
     table.customers[other].places[random.below(4)] = copy;
     true
 }
 
 /// Customer 0.0.0.0 holds a connection of which all five fields are zero. No other connection of its stays.
-fn zero_loose(table: &mut Table, random: &mut Random) -> bool {
+fn zero_standalone(table: &mut Table, random: &mut Random) -> bool {
     let mut listed = tables::listed(table).iter();
     let Some(customer) = listed.position(|one| one.address == 0) else {
         return false;

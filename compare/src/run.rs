@@ -55,7 +55,7 @@ fn full_tables(seed: u64, random: &mut Random, tally: &mut Tally) -> Result<(), 
         let full = Full::new(random).map_err(place)?;
         let mut trials = Trials {
             table: &full.full.first,
-            world: &full.world,
+            values: &full.values,
             random,
             tally,
         };

@@ -1,13 +1,13 @@
 //! The source of a stream's messages and buffer lengths.
 
-use crate::aim;
 use crate::build::{self, Fields, Sum, NOTIFY};
+use crate::checksums;
 use crate::damage;
-use crate::dress;
+use crate::encode;
 use crate::intent::{self, Intent, Mode};
 use crate::random::Random;
 use crate::tally::Tally;
-use crate::world::World;
+use crate::values::Values;
 use second::table::Table;
 
 /// A message and what it was made of.
@@ -22,13 +22,13 @@ pub struct Made {
 pub fn message(
     mode: Mode,
     trouble: usize,
-    world: &World,
+    values: &Values,
     table: &Table,
     random: &mut Random,
     tally: &mut Tally,
 ) -> Made {
     let intent = random.weighted(mode);
-    let (kind, mut fields) = intent::fields(intent, world, table, random);
+    let (kind, mut fields) = intent::fields(intent, values, table, random);
     let troubled = random.chance(trouble, 100);
     if troubled && random.chance(1, 8) {
         tally.damage("random bytes");
@@ -41,14 +41,14 @@ pub fn message(
     }
     let (fault, damage) = *random.pick(&[(true, false), (false, true), (true, true)]);
     if troubled && fault {
-        dress::fault(&mut fields, world, random);
+        encode::add_faults(&mut fields, values, random);
     }
-    let mut bytes = dress::message(kind, fields.clone(), random);
+    let mut bytes = encode::message(kind, fields.clone(), random);
     let damaged = troubled && damage;
     if damaged {
         damage::damage(&mut bytes, random, |name| tally.damage(name));
     } else {
-        aim_at_checksums(&mut bytes, table, random);
+        force_checksums(&mut bytes, table, random);
     }
     tally.intent(intent);
     Made {
@@ -59,18 +59,18 @@ pub fn message(
 }
 
 /// One message in sixty gets the checksum FFFF, and two get a reply with it.
-fn aim_at_checksums(bytes: &mut [u8], table: &Table, random: &mut Random) {
+fn force_checksums(bytes: &mut [u8], table: &Table, random: &mut Random) {
     match random.below(60) {
-        0 => aim::own_checksum(bytes),
-        1 | 2 => aim::reply_checksum(bytes, table),
+        0 => checksums::make_own_ffff(bytes),
+        1 | 2 => checksums::make_reply_ffff(bytes, table),
         _ => {}
     }
 }
 
 /// A message of good form, for tables that are handed in broken.
-pub fn sound_message(world: &World, table: &Table, random: &mut Random) -> Vec<u8> {
+pub fn sound_message(values: &Values, table: &Table, random: &mut Random) -> Vec<u8> {
     let intent = *random.pick(&[Intent::OpenNew, Intent::CloseOpen, Intent::PathNew, Intent::TearHeld]);
-    let (kind, fields) = intent::fields(intent, world, table, random);
+    let (kind, fields) = intent::fields(intent, values, table, random);
     let objects = if kind == NOTIFY {
         fields.request()
     } else {

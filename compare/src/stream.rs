@@ -10,7 +10,7 @@ use crate::rosters::{self, Shape, SHAPES};
 use crate::source::{self, Made};
 use crate::tally::Tally;
 use crate::trials::{hex, Trials};
-use crate::world::World;
+use crate::values::Values;
 use second::table::Table;
 use second::Node;
 
@@ -19,7 +19,7 @@ pub struct Stream {
     random: Random,
     shape: Shape,
     roster: Vec<u8>,
-    world: World,
+    values: Values,
     first: Table,
     second: Table,
     /// The second program's node that stands from the first message to the last.
@@ -49,7 +49,7 @@ impl Stream {
         Ok(Stream {
             name,
             shape,
-            world: World::new(&roster, &mut random),
+            values: Values::new(&roster, &mut random),
             ledger: (answer == 0).then(|| Ledger::new(&bytes)),
             roster: bytes,
             first,
@@ -81,8 +81,8 @@ impl Stream {
     }
 
     fn step(&mut self, step: u64, tally: &mut Tally) -> Result<(), String> {
-        let (world, random) = (&self.world, &mut self.random);
-        let made = source::message(self.mode, self.trouble, world, &self.first, random, tally);
+        let (values, random) = (&self.values, &mut self.random);
+        let made = source::message(self.mode, self.trouble, values, &self.first, random, tally);
         let buffer = source::buffer_length(random);
         self.message(&made, buffer, tally).map_err(|what| {
             let (roster, message) = (hex(&self.roster), hex(&made.bytes));
@@ -126,7 +126,7 @@ impl Stream {
     fn try_tables(&mut self, step: u64, tally: &mut Tally) -> Result<(), String> {
         let mut trials = Trials {
             table: &self.first,
-            world: &self.world,
+            values: &self.values,
             random: &mut self.random,
             tally,
         };

@@ -2,7 +2,7 @@
 
 use crate::build::Connection;
 use crate::random::Random;
-use second::table::{Call, Customer, LoosePlace, Place, Table};
+use second::table::{Call, Customer, Place, StandalonePlace, Table};
 
 pub const FREE_PLACE: Place = Place {
     taken: false,
@@ -24,7 +24,7 @@ pub const FREE_CALL: Call = Call {
     places: [FREE_PLACE; 4],
 };
 
-pub const FREE_LOOSE: LoosePlace = LoosePlace {
+pub const FREE_STANDALONE: StandalonePlace = StandalonePlace {
     taken: false,
     endpoint: 0,
     tunnel: 0,
@@ -36,7 +36,7 @@ pub const UNUSED: Customer = Customer {
     address: 0,
     guarantee: 0,
     limit: 0,
-    places: [FREE_LOOSE; 4],
+    places: [FREE_STANDALONE; 4],
 };
 
 /// The empty table, as a refused roster returns it.
@@ -109,7 +109,7 @@ pub fn held(table: &Table) -> Vec<Held> {
     for customer in listed(table) {
         let places = customer.places.iter().filter(|place| place.taken);
         all.extend(places.map(|place| Held {
-            connection: loose(customer, place),
+            connection: standalone(customer, place),
             call: 0,
         }));
     }
@@ -126,7 +126,7 @@ fn under(call: &Call, place: &Place) -> Connection {
     }
 }
 
-fn loose(customer: &Customer, place: &LoosePlace) -> Connection {
+fn standalone(customer: &Customer, place: &StandalonePlace) -> Connection {
     Connection {
         endpoint: place.endpoint,
         tunnel: place.tunnel,

@@ -8,7 +8,7 @@ use crate::near::NEAR_MISSES;
 use crate::random::Random;
 use crate::source;
 use crate::tally::Tally;
-use crate::world::World;
+use crate::values::Values;
 use second::table::Table;
 use second::Node;
 
@@ -18,7 +18,7 @@ const CHANGES: usize = 60;
 pub struct Trials<'a> {
     /// A table that breaks no rule.
     pub table: &'a Table,
-    pub world: &'a World,
+    pub values: &'a Values,
     pub random: &'a mut Random,
     pub tally: &'a mut Tally,
 }
@@ -83,11 +83,11 @@ impl Trials<'_> {
     fn compare(&mut self, table: &Table) -> Result<Done, String> {
         let sound = self.random.chance(3, 4);
         let (message, buffer) = if sound {
-            let message = source::sound_message(self.world, self.table, self.random);
+            let message = source::sound_message(self.values, self.table, self.random);
             (message, self.random.between(128, 300))
         } else {
-            let (world, random, tally) = (self.world, &mut *self.random, &mut *self.tally);
-            let made = source::message(CHURN, 60, world, self.table, random, tally);
+            let (values, random, tally) = (self.values, &mut *self.random, &mut *self.tally);
+            let made = source::message(CHURN, 60, values, self.table, random, tally);
             (made.bytes, source::buffer_length(random))
         };
         let done = both::message((table, table), &message, buffer, self.random)

@@ -36,10 +36,7 @@ impl Node {
 
     /// Close: 33, 32, 22.
     pub(crate) fn close(&mut self, request: &CallRequest<'_>, customer: usize) -> u8 {
-        let (short, long) = (
-            (request.pair, request.id),
-            (request.pair, Name::new(request.name)),
-        );
+        let (short, long) = ((request.pair, request.id), (request.pair, Name::new(request.name)));
         if self.long_ids.get(&long) != Some(&request.id) {
             return 33;
         }

@@ -5,22 +5,22 @@
 
 mod bytes;
 mod calls;
+mod checkpoint;
 mod checksum;
 mod connections;
-mod copy;
 pub mod keys;
 pub mod message;
 mod node;
 mod objects;
 mod places;
 mod reply;
-mod restore;
 mod roster;
+mod rules;
 pub mod table;
 #[cfg(test)]
 mod tests;
 
-pub use copy::{read_copy, write_copy};
+pub use checkpoint::{read_checkpoint, write_checkpoint};
 pub use message::{read_message, Message};
 pub use node::{handle, Node};
 pub use roster::read_roster;

@@ -58,10 +58,7 @@ pub(crate) struct Fault {
 
 impl From<u8> for Fault {
     fn from(answer: u8) -> Fault {
-        Fault {
-            answer,
-            sender: None,
-        }
+        Fault { answer, sender: None }
     }
 }
 

@@ -24,7 +24,7 @@ pub struct Node {
     /// The free ones of the sixty-four slots.
     pub(crate) free: BTreeSet<usize>,
     /// The connections, and where each stands.
-    pub(crate) connections: HashMap<Connection, Home>,
+    pub(crate) connections: HashMap<Connection, Position>,
 }
 
 #[derive(Clone, Debug)]
@@ -36,7 +36,7 @@ pub(crate) struct OpenCall {
 
 /// Where a connection stands.
 #[derive(Clone, Copy, Debug)]
-pub(crate) struct Home {
+pub(crate) struct Position {
     pub holder: Holder,
     pub place: usize,
 }
@@ -115,13 +115,7 @@ impl Node {
     }
 
     /// Sends a Notify, which uses up one own identifier.
-    fn notify(
-        &mut self,
-        reply: &mut [u8],
-        request: &CallRequest<'_>,
-        closes: bool,
-        answer: u8,
-    ) -> usize {
+    fn notify(&mut self, reply: &mut [u8], request: &CallRequest<'_>, closes: bool, answer: u8) -> usize {
         let own = Own {
             address: self.address,
             epoch: self.epoch,

@@ -22,13 +22,7 @@ pub(crate) struct Own {
 }
 
 /// Writes the Notify that answers an open or a close, and gives its length.
-pub(crate) fn notify(
-    reply: &mut [u8],
-    own: Own,
-    request: &CallRequest<'_>,
-    closes: bool,
-    answer: u8,
-) -> usize {
+pub(crate) fn notify(reply: &mut [u8], own: Own, request: &CallRequest<'_>, closes: bool, answer: u8) -> usize {
     let status = if closes { CLOSING } else { OPENING };
     let mut writer = Writer::behind_header(reply);
     writer.put(&[0, 12, 24, 1, 0]);
@@ -46,12 +40,7 @@ pub(crate) fn notify(
 }
 
 /// Writes the PathErr that refuses a Path, and gives its length.
-pub(crate) fn path_err(
-    reply: &mut [u8],
-    address: u32,
-    request: &PathRequest<'_>,
-    answer: u8,
-) -> usize {
+pub(crate) fn path_err(reply: &mut [u8], address: u32, request: &PathRequest<'_>, answer: u8) -> usize {
     let mut writer = Writer::behind_header(reply);
     writer.put(request.session);
     writer.put_error_spec(address, answer);

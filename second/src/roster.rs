@@ -36,11 +36,7 @@ impl Roster {
         if limit == 0 || usize::from(limit) > CALLS || guarantee > limit {
             return Err(44);
         }
-        if self
-            .by_address
-            .insert(address, self.accounts.len())
-            .is_some()
-        {
+        if self.by_address.insert(address, self.accounts.len()).is_some() {
             return Err(45);
         }
         self.accounts.push(Account {
@@ -59,7 +55,7 @@ impl Roster {
     }
 
     /// S: the sum of the larger of open calls and guarantee. Without calls, the sum of the guarantees.
-    pub fn spoken_for(&self) -> usize {
+    pub fn share_sum(&self) -> usize {
         self.accounts
             .iter()
             .map(|account| usize::from(account.open.max(account.guarantee)))
@@ -69,8 +65,7 @@ impl Roster {
     /// Whether one more call of this customer is refused for share.
     pub fn share_is_used(&self, customer: usize) -> bool {
         let account = &self.accounts[customer];
-        account.open == account.limit
-            || (account.open >= account.guarantee && self.spoken_for() == CALLS)
+        account.open == account.limit || (account.open >= account.guarantee && self.share_sum() == CALLS)
     }
 }
 
@@ -102,7 +97,7 @@ fn read(bytes: &[u8]) -> Result<Roster, u8> {
         let (guarantee, limit) = ((numbers >> 9) as u8, (numbers >> 2 & 0x7f) as u8);
         roster.list(long(record, 0), guarantee, limit)?;
     }
-    if roster.spoken_for() > CALLS {
+    if roster.share_sum() > CALLS {
         return Err(46);
     }
     Ok(roster)

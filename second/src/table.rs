@@ -39,7 +39,7 @@ pub struct Call {
 /// A connection of Call ID 0.
 #[repr(C)]
 #[derive(Clone, Copy, PartialEq, Eq, Debug)]
-pub struct LoosePlace {
+pub struct StandalonePlace {
     pub taken: bool,
     pub endpoint: u32,
     pub tunnel: u16,
@@ -54,7 +54,7 @@ pub struct Customer {
     pub address: u32,
     pub guarantee: u8,
     pub limit: u8,
-    pub places: [LoosePlace; PLACES],
+    pub places: [StandalonePlace; PLACES],
 }
 
 #[repr(C)]
@@ -79,8 +79,8 @@ impl Place {
     };
 }
 
-impl LoosePlace {
-    pub const FREE: LoosePlace = LoosePlace {
+impl StandalonePlace {
+    pub const FREE: StandalonePlace = StandalonePlace {
         taken: false,
         endpoint: 0,
         tunnel: 0,
@@ -109,7 +109,7 @@ impl Customer {
         address: 0,
         guarantee: 0,
         limit: 0,
-        places: [LoosePlace::FREE; PLACES],
+        places: [StandalonePlace::FREE; PLACES],
     };
 }
 

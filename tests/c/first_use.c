@@ -1,5 +1,5 @@
-/* A first use of the library from C: a roster, the worked Path of document 01 and its reply, and what the table says before and after a
- * setup. Build: cc -Iinclude tests/c/first_use.c target/staticlib/libchaffmoor.a -o first_use */
+/* A first use of the library from C: a roster, the worked Path of document 01 and its reply, and what the table says
+ * before and after a setup. Build: cc -Iinclude tests/c/first_use.c target/staticlib/libchaffmoor.a -o first_use */
 #include "chaffmoor.h"
 
 #include <stdio.h>
@@ -38,7 +38,8 @@ int main(void)
     uint8_t reply[CHAFFMOOR_REPLY];
     memset(reply, 0xee, sizeof reply);
     chaffmoor_roster_reply first = chaffmoor_read_roster(roster, sizeof roster);
-    printf("roster: answer %u, %u customer, own address %08x\n", (unsigned)first.answer, (unsigned)first.table.listed, (unsigned)first.table.address);
+    printf("roster: answer %u, %u customer, own address %08x\n", (unsigned)first.answer,
+           (unsigned)first.table.listed, (unsigned)first.table.address);
 
     chaffmoor_table table = first.table;
     chaffmoor_message_reply r = chaffmoor_handle(table, path, sizeof path, reply, sizeof reply);
@@ -46,8 +47,8 @@ int main(void)
     printf("the byte behind it: %02x\n", reply[r.length]);
 
     r = chaffmoor_handle(r.table, setup, sizeof setup, reply, sizeof reply);
-    printf("setup: answer %u, %zu bytes, slots used %llx, name '%c', next identifier %u\n", (unsigned)r.answer, r.length,
-           (unsigned long long)r.table.occupied, r.table.calls[0].name[0], (unsigned)r.table.next);
+    printf("setup: answer %u, %zu bytes, slots used %llx, name '%c', next identifier %u\n", (unsigned)r.answer,
+           r.length, (unsigned long long)r.table.occupied, r.table.calls[0].name[0], (unsigned)r.table.next);
     r = chaffmoor_handle(r.table, setup, sizeof setup, reply, sizeof reply);
     printf("again: answer %u, slots used %llx\n", (unsigned)r.answer, (unsigned long long)r.table.occupied);
 

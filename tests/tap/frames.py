@@ -1,73 +1,10 @@
 #!/usr/bin/env python3
-"""Writes the tap's input for a named case to standard output. Frames and messages are built from document 01's layouts."""
-import struct
+"""frames.py CASE: writes the tap's input for the named case to standard output."""
 import sys
+from pathlib import Path
 
-X, Y, END = "10.0.0.1", "10.0.0.3", "10.0.0.2"
-OPEN, CLOSE = 0x80000008, 0x80000009
-
-
-def address(dotted):
-    return bytes(int(part) for part in dotted.split("."))
-
-
-def obj(number, ctype, body):
-    return struct.pack(">HBB", 4 + len(body), number, ctype) + body
-
-
-def message(kind, *objects):
-    body = b"".join(objects)
-    return struct.pack(">BBHBBH", 0x10, kind, 0, 255, 0, 8 + len(body)) + body
-
-
-def session(call, tunnel=0, extended=X):
-    return obj(1, 7, address(END) + struct.pack(">HH", call, tunnel) + address(extended))
-
-
-def template(sender, lsp=0):
-    return obj(11, 7, address(sender) + struct.pack(">HH", 0, lsp))
-
-
-def notify(status, sender, call, name, *more):
-    padding = bytes(-len(name) % 4)
-    return message(
-        21,
-        session(call),
-        obj(6, 1, bytes(8)),
-        template(sender),
-        obj(23, 1, struct.pack(">II", 3, 1)),
-        obj(196, 1, struct.pack(">I", status)),
-        obj(207, 7, bytes([7, 7, 0, len(name)]) + name + padding),
-        *more,
-    )
-
-
-def setup(sender, call, name, *more):
-    return notify(OPEN, sender, call, name, *more)
-
-
-def close(sender, call, name):
-    return notify(CLOSE, sender, call, name)
-
-
-def path(sender, call, tunnel, lsp=1):
-    return message(1, session(call, tunnel), template(sender, lsp))
-
-
-def path_tear(sender, call, tunnel, lsp=1):
-    return message(5, session(call, tunnel), template(sender, lsp))
-
-
-def roster(*customers):
-    head = bytes([0x10 | len(customers)]) + address(END) + (7).to_bytes(3, "big")
-    return head + b"".join(address(a) + struct.pack(">H", g * 512 + l * 4) for a, g, l in customers)
-
-
-def frames(*items):
-    return b"".join(struct.pack(">H", len(item)) + item for item in items)
-
-
-TWO = roster((X, 1, 2), (Y, 62, 64))
+sys.path.insert(0, str(Path(__file__).resolve().parent.parent))
+from layouts import TWO, X, Y, close, frames, obj, path, path_tear, roster, setup
 
 
 def filled(size):
@@ -90,7 +27,15 @@ CASES = {
         setup(Y, 63, b"y63"),
     ),
     # close under a connection, PathTear with Call ID 9, close, close once more
-    "close": frames(TWO, setup(X, 5, b"a"), path(X, 5, 1), close(X, 5, b"a"), path_tear(X, 9, 1), close(X, 5, b"a"), close(X, 5, b"a")),
+    "close": frames(
+        TWO,
+        setup(X, 5, b"a"),
+        path(X, 5, 1),
+        close(X, 5, b"a"),
+        path_tear(X, 9, 1),
+        close(X, 5, b"a"),
+        close(X, 5, b"a"),
+    ),
     # name length 32 opens, 33 is 13
     "names": frames(TWO, setup(Y, 1, b"n" * 32), setup(Y, 2, b"n" * 33)),
     # 1,024 bytes is read, 1,028 is 3

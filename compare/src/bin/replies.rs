@@ -1,5 +1,5 @@
-//! Writes every kind of reply that the proved program sends, for another program to dissect (tools/dissect): a line each, the
-//! answer and the reply's bytes in hex. Names of 1 to 32 bytes, so that every padding occurs.
+//! Writes every kind of reply that the proved program sends, for another program to dissect (tools/dissect): a line
+//! each, the answer and the reply's bytes in hex. Names of 1 to 32 bytes, so that every padding occurs.
 
 use compare::build::{self, Connection, Record, Roster};
 use compare::first;

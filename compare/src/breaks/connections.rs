@@ -9,10 +9,13 @@ use second::table::Table;
 pub const BREAKS: &[(&str, Break)] = &[
     ("connection twice within a call", within_call),
     ("connection twice across two calls of a pair", across_calls),
-    ("connection twice across a call and Call ID 0", across_loose),
-    ("connection twice within a customer's four", within_loose),
+    ("connection twice across a call and Call ID 0", across_standalone),
+    ("connection twice within a customer's four", within_standalone),
     ("all-zero connection twice within a call", zero_within_call),
-    ("all-zero connection twice within a customer's four", zero_within_loose),
+    (
+        "all-zero connection twice within a customer's four",
+        zero_within_standalone,
+    ),
 ];
 
 /// Another place of the four than this one.
@@ -39,23 +42,23 @@ fn across_calls(table: &mut Table, random: &mut Random) -> bool {
     true
 }
 
-fn across_loose(table: &mut Table, random: &mut Random) -> bool {
+fn across_standalone(table: &mut Table, random: &mut Random) -> bool {
     let Some(slot) = tables::some_used(table, random) else {
         return false;
     };
     let place = some_place(table, slot, random);
     let call = table.calls[slot];
     let customer = customer_of(table, call.sender);
-    let copy = loose(&call.places[place], call.endpoint);
+    let copy = standalone(&call.places[place], call.endpoint);
     table.customers[customer].places[random.below(4)] = copy;
     true
 }
 
-fn within_loose(table: &mut Table, random: &mut Random) -> bool {
+fn within_standalone(table: &mut Table, random: &mut Random) -> bool {
     let Some(customer) = some_customer(table, random) else {
         return false;
     };
-    let place = some_loose(table, customer, random);
+    let place = some_standalone(table, customer, random);
     let places = &mut table.customers[customer].places;
     places[another(place, random)] = places[place];
     true
@@ -74,7 +77,7 @@ fn zero_within_call(table: &mut Table, random: &mut Random) -> bool {
     true
 }
 
-fn zero_within_loose(table: &mut Table, random: &mut Random) -> bool {
+fn zero_within_standalone(table: &mut Table, random: &mut Random) -> bool {
     let Some(customer) = some_customer(table, random) else {
         return false;
     };

@@ -4,7 +4,7 @@ use super::tools::some_customer;
 use super::Break;
 use crate::random::Random;
 use crate::tables;
-use second::table::{Call, Customer, LoosePlace, Place, Table};
+use second::table::{Call, Customer, Place, StandalonePlace, Table};
 
 pub const BREAKS: &[(&str, Break)] = &[
     ("free slot's end point", |t, r| {
@@ -52,16 +52,16 @@ pub const BREAKS: &[(&str, Break)] = &[
         place(t, r, |place, r| place.lsp = bit16(r))
     }),
     ("customer's free place: end point", |t, r| {
-        loose(t, r, |place, r| place.endpoint = bit32(r))
+        standalone(t, r, |place, r| place.endpoint = bit32(r))
     }),
     ("customer's free place: Tunnel ID", |t, r| {
-        loose(t, r, |place, r| place.tunnel = bit16(r))
+        standalone(t, r, |place, r| place.tunnel = bit16(r))
     }),
     ("customer's free place: extended", |t, r| {
-        loose(t, r, |place, r| place.extended = bit32(r))
+        standalone(t, r, |place, r| place.extended = bit32(r))
     }),
     ("customer's free place: LSP ID", |t, r| {
-        loose(t, r, |place, r| place.lsp = bit16(r))
+        standalone(t, r, |place, r| place.lsp = bit16(r))
     }),
     ("unused record's address", |t, r| {
         record(t, r, |one, r| one.address = bit32(r))
@@ -134,12 +134,12 @@ fn place(table: &mut Table, random: &mut Random, change: fn(&mut Place, &mut Ran
 }
 
 /// Changes a free place of a customer's four.
-fn loose(table: &mut Table, random: &mut Random, change: fn(&mut LoosePlace, &mut Random)) -> bool {
+fn standalone(table: &mut Table, random: &mut Random, change: fn(&mut StandalonePlace, &mut Random)) -> bool {
     let Some(customer) = some_customer(table, random) else {
         return false;
     };
     let places = table.customers[customer].places.iter_mut();
-    let mut free: Vec<&mut LoosePlace> = places.filter(|place| !place.taken).collect();
+    let mut free: Vec<&mut StandalonePlace> = places.filter(|place| !place.taken).collect();
     if free.is_empty() {
         return false;
     }

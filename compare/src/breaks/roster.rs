@@ -16,7 +16,7 @@ pub const BREAKS: &[(&str, Break)] = &[
     ("listed 0 with an own epoch", empty_epoch),
     ("listed 0 with an occupied bit", empty_bit),
     ("listed 0 with a call", empty_call),
-    ("listed 0 with a connection of Call ID 0", empty_loose),
+    ("listed 0 with a connection of Call ID 0", empty_standalone),
     ("epoch 2^24", epoch_next),
     ("epoch above 2^24", epoch_above),
     ("limit 0", limit_none),
@@ -99,7 +99,7 @@ fn empty_call(table: &mut Table, random: &mut Random) -> bool {
     true
 }
 
-fn empty_loose(table: &mut Table, random: &mut Random) -> bool {
+fn empty_standalone(table: &mut Table, random: &mut Random) -> bool {
     *table = EMPTY;
     let place = random.below(4);
     table.customers[random.below(8)].places[place].taken = true;

@@ -1,15 +1,15 @@
 //! Small changes that breakings and near misses are put together from.
 
 use crate::random::Random;
-use crate::tables::{self, FREE_CALL, FREE_LOOSE, FREE_PLACE};
-use second::table::{Call, LoosePlace, Place, Table};
+use crate::tables::{self, FREE_CALL, FREE_PLACE, FREE_STANDALONE};
+use second::table::{Call, Place, StandalonePlace, Table};
 
 /// An end point that no call and no connection of the table has.
 pub fn fresh_endpoint(table: &Table, random: &mut Random) -> u32 {
     loop {
         let address = random.word();
-        let loose = tables::listed(table).iter().flat_map(|one| &one.places);
-        let known = loose.map(|place| place.endpoint);
+        let standalone = tables::listed(table).iter().flat_map(|one| &one.places);
+        let known = standalone.map(|place| place.endpoint);
         let mut known = known.chain(tables::calls(table).map(|call| call.endpoint));
         if !known.any(|endpoint| endpoint == address) {
             return address;
@@ -99,9 +99,9 @@ pub fn keep_calls(table: &mut Table, keep: impl Fn(usize, &Call) -> bool) {
 }
 
 /// Removes all connections of Call ID 0.
-pub fn drop_loose(table: &mut Table) {
+pub fn drop_standalone(table: &mut Table) {
     for customer in &mut table.customers {
-        customer.places = [FREE_LOOSE; 4];
+        customer.places = [FREE_STANDALONE; 4];
     }
 }
 
@@ -132,7 +132,7 @@ pub fn some_place(table: &mut Table, slot: usize, random: &mut Random) -> usize 
 }
 
 /// A place of the customer's four that holds a connection, a fresh one if there was none.
-pub fn some_loose(table: &mut Table, customer: usize, random: &mut Random) -> usize {
+pub fn some_standalone(table: &mut Table, customer: usize, random: &mut Random) -> usize {
     let is_taken = |&place: &usize| table.customers[customer].places[place].taken;
     let taken: Vec<usize> = (0..4).filter(is_taken).collect();
     if !taken.is_empty() {
@@ -141,13 +141,13 @@ pub fn some_loose(table: &mut Table, customer: usize, random: &mut Random) -> us
     let place = random.below(4);
     let endpoint = fresh_endpoint(table, random);
     let fresh = fresh_place(table, random);
-    table.customers[customer].places[place] = loose(&fresh, endpoint);
+    table.customers[customer].places[place] = standalone(&fresh, endpoint);
     place
 }
 
 /// The same numbers in a customer's four.
-pub fn loose(place: &Place, endpoint: u32) -> LoosePlace {
-    LoosePlace {
+pub fn standalone(place: &Place, endpoint: u32) -> StandalonePlace {
+    StandalonePlace {
         taken: true,
         endpoint,
         tunnel: place.tunnel,

@@ -1,4 +1,5 @@
--- The table of answers (01, Every answer): the number of each, what it sends, and the error code and value that this carries.
+-- The table of answers (01, Every answer): the number of each, what it sends, and the error code and value that this
+-- carries.
 use Prim.Native.Nat.{ℕ}
 use mathlib.Core.Bool.{Bool, true, false}
 use lib.Dec.{eqb}
@@ -10,8 +11,8 @@ use Rattle.answers.specs.declared.answer.Reply.the-variants.{Nothing, No
 use Rattle.answers.specs.declared.answer.Row.{Row}
 
 -- nothing is sent; a Notify, a PathErr is sent, with this error code and value
-abbrev pub silent : ℕ → Row
-silent number = record { number = number; reply = Nothing; code = 0; value = 0 }
+abbrev pub noReply : ℕ → Row
+noReply number = record { number = number; reply = Nothing; code = 0; value = 0 }
 
 abbrev pub byNotify : ℕ → ℕ → ℕ → Row
 byNotify number code value = record { number = number; reply = Notify; code = code; value = value }
@@ -20,18 +21,18 @@ abbrev pub byPathErr : ℕ → ℕ → ℕ → Row
 byPathErr number code value = record { number = number; reply = PathErr; code = code; value = value }
 
 abbrev pub rowOf : Answer → Row
-rowOf TableBroken = silent 1
-rowOf BufferTooSmall = silent 2
-rowOf (Malformed fault) = silent (faultNumber fault)
-rowOf SenderNotListed = silent 11
-rowOf UnderOtherCall = silent 14
-rowOf NotHeld = silent 15
+rowOf TableBroken = noReply 1
+rowOf BufferTooSmall = noReply 2
+rowOf (Malformed fault) = noReply (faultNumber fault)
+rowOf SenderNotListed = noReply 11
+rowOf UnderOtherCall = noReply 14
+rowOf NotHeld = noReply 15
 rowOf CallOpened = byNotify 20 0 0
 rowOf CallAlreadyOpen = byNotify 21 0 0
 rowOf CallClosed = byNotify 22 0 0
-rowOf ConnectionAdded = silent 23
-rowOf ConnectionAlreadyHeld = silent 24
-rowOf ConnectionRemoved = silent 25
+rowOf ConnectionAdded = noReply 23
+rowOf ConnectionAlreadyHeld = noReply 24
+rowOf ConnectionRemoved = noReply 25
 rowOf CallIdContention = byNotify 30 32 1
 rowOf DuplicateCall = byNotify 31 32 4
 rowOf ConnectionsStillExist = byNotify 32 32 2

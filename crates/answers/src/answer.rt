@@ -1,6 +1,6 @@
 // What a message is answered (document 01, "Every answer").
 ghost use mathlib.Core.Path.{_≡_};
-ghost use Rattle.answers.specs.Answers.{silent, byNotify, byPathErr, rowOf, answerNumber};
+ghost use Rattle.answers.specs.Answers.{noReply, byNotify, byPathErr, rowOf, answerNumber};
 use objects::fault;
 use objects::fault::Fault;
 
@@ -44,8 +44,8 @@ pub enum Reply {
     PathErr,
 }
 
-// A row of document 01's table of answers: the number, what is sent, and the error code and value that it carries, 0 and 0 on
-// success.
+// A row of document 01's table of answers: the number, what is sent, and the error code and value that it carries, 0
+// and 0 on success.
 pub struct Row {
     pub number: u8,
     pub reply: Reply,
@@ -53,8 +53,8 @@ pub struct Row {
     pub value: u16,
 }
 
-fn silent(number: u8) -> Row
-    ensures { λ r. ⌜ r ≡ silent number ⌝ }
+fn no_reply(number: u8) -> Row
+    ensures { λ r. ⌜ r ≡ noReply number ⌝ }
 {
     Row {
         number,
@@ -90,18 +90,18 @@ pub fn row_of(a: Answer) -> Row
     ensures { λ r. ⌜ r ≡ rowOf a ⌝ }
 {
     match a {
-        Answer::TableBroken => silent(1),
-        Answer::BufferTooSmall => silent(2),
-        Answer::Malformed(f) => silent(fault::number(f)),
-        Answer::SenderNotListed => silent(11),
-        Answer::UnderOtherCall => silent(14),
-        Answer::NotHeld => silent(15),
+        Answer::TableBroken => no_reply(1),
+        Answer::BufferTooSmall => no_reply(2),
+        Answer::Malformed(f) => no_reply(fault::number(f)),
+        Answer::SenderNotListed => no_reply(11),
+        Answer::UnderOtherCall => no_reply(14),
+        Answer::NotHeld => no_reply(15),
         Answer::CallOpened => by_notify(20, 0, 0),
         Answer::CallAlreadyOpen => by_notify(21, 0, 0),
         Answer::CallClosed => by_notify(22, 0, 0),
-        Answer::ConnectionAdded => silent(23),
-        Answer::ConnectionAlreadyHeld => silent(24),
-        Answer::ConnectionRemoved => silent(25),
+        Answer::ConnectionAdded => no_reply(23),
+        Answer::ConnectionAlreadyHeld => no_reply(24),
+        Answer::ConnectionRemoved => no_reply(25),
         Answer::CallIdContention => by_notify(30, 32, 1),
         Answer::DuplicateCall => by_notify(31, 32, 4),
         Answer::ConnectionsStillExist => by_notify(32, 32, 2),

@@ -1,14 +1,14 @@
-// The node's call side for programs in C and Rust: the static library's functions, with 01's numbers for answers. The table goes in and
-// comes back by value. include/chaffmoor.h declares them.
+// The node's call side for programs in C and Rust: the static library's functions, with 01's numbers for answers. The
+// table goes in and comes back by value. include/chaffmoor.h declares them.
 ghost use mathlib.Core.Path.{_≡_};
 ghost use Rattle.table.specs.Roster.{rosterNumber, rosterAnswer, tableFor};
 ghost use Rattle.answers.specs.Answers.{answerNumber};
-ghost use Rattle.calls.specs.Handling.{handled};
-ghost use Rattle.copies.specs.Restored.{written, restored};
+ghost use Rattle.spec_calls.specs.Handling.{handled};
+ghost use Rattle.spec_checkpoint.specs.Restored.{written, restored};
 use answers::answer::number;
-use copying::write_copy;
+use checkpoint_read::read_checkpoint;
+use checkpoint_write::write_checkpoint;
 use node::handle::handle;
-use restoring::restore;
 use rosters::read_roster;
 use table::answer::roster_number;
 use table::state::Table;
@@ -27,13 +27,13 @@ pub struct MessageReply {
 }
 
 #[repr(C)]
-pub struct CopyWritten {
+pub struct CheckpointWritten {
     pub answer: u8,
     pub length: usize,
 }
 
 #[repr(C)]
-pub struct CopyRead {
+pub struct CheckpointRead {
     pub answer: u8,
     pub calls: usize,
     pub connections: usize,
@@ -69,26 +69,33 @@ pub extern "C" fn chaffmoor_handle(table: Table, message: &[u8], reply: &mut [u8
     }
 }
 
-// Writes a copy of any table into any buffer.
+// Writes a checkpoint of any table into any buffer.
 #[no_mangle]
-pub extern "C" fn chaffmoor_write_copy(table: Table, copy: &mut [u8]) -> CopyWritten
-    ensures { λ r. ⌜ (r .answer ≡ written table (now (copy .entry)) .answer) × (r .length ≡ written table (now (copy .entry)) .length) × (now (copy .exit) ≡ written table (now (copy .entry)) .buffer) ⌝ }
+pub extern "C" fn chaffmoor_write_checkpoint(
+    table: Table,
+    checkpoint: &mut [u8],
+) -> CheckpointWritten
+    ensures { λ r. ⌜ (r .answer ≡ written table (now (checkpoint .entry)) .answer) × (r .length ≡ written table (now (checkpoint .entry)) .length) × (now (checkpoint .exit) ≡ written table (now (checkpoint .entry)) .buffer) ⌝ }
 {
-    let w = write_copy(table, copy);
-    CopyWritten {
+    let w = write_checkpoint(table, checkpoint);
+    CheckpointWritten {
         answer: w.answer,
         length: w.length,
     }
 }
 
-// Reads a copy of any bytes under a roster of any bytes.
+// Reads a checkpoint of any bytes under a roster of any bytes.
 #[no_mangle]
-pub extern "C" fn chaffmoor_read_copy(salvage: bool, roster: &[u8], copy: &[u8]) -> CopyRead
-    ensures { λ r. ⌜ record { answer = r .answer; table = r .table; calls = r .calls; connections = r .connections } ≡ restored salvage (now (roster .entry)) (now (copy .entry)) ⌝ }
+pub extern "C" fn chaffmoor_read_checkpoint(
+    salvage: bool,
+    roster: &[u8],
+    checkpoint: &[u8],
+) -> CheckpointRead
+    ensures { λ r. ⌜ record { answer = r .answer; table = r .table; calls = r .calls; connections = r .connections } ≡ restored salvage (now (roster .entry)) (now (checkpoint .entry)) ⌝ }
 {
-    let f = restore(salvage, roster, copy);
+    let f = read_checkpoint(salvage, roster, checkpoint);
     let table = f.table;
-    CopyRead {
+    CheckpointRead {
         answer: f.answer,
         calls: f.calls,
         connections: f.connections,

@@ -9,6 +9,7 @@ use lib.ListN.{length}
 use lib.Dec.{ltb, eqb}
 use borrow.Author.Tests.{eqb-true, ltb-false}
 use Rattle.numbers.specs.BigEndian.{be16At}
+use Rattle.lists.proofs.Tests.{both}
 use Rattle.objects.specs.Forms.{nameLength, roundedUpTo4}
 use Rattle.objects.specs.Placed.{Placed}
 use Rattle.objects.specs.declared.walk.Seen.{Seen}
@@ -26,10 +27,6 @@ good-message-length s e = by (ltb (length s) 8) (ltb 1024 (length s)) (not (eqb 
     by false true true d p q e = let z : _≡_ {A = ℕ} 0 1 = cc in absurd (omega arith)
     by false true false d p q e = let z : _≡_ {A = ℕ} 0 1 = cc in absurd (omega arith)
     by false false c d p q e = (ltb-false _ _ p, ltb-false _ _ q)
-
-both : (a b : Bool) → (a && b) ≡ true → (a ≡ true) × (b ≡ true)
-both true b e = (refl, e)
-both false b e = let z : _≡_ {A = ℕ} 0 1 = cc in absurd (omega arith)
 
 -- an object that came once
 came : (seen : Seen) → once seen ≡ true → 0 < seen .times

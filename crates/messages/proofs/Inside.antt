@@ -1,4 +1,5 @@
--- What a message that was read promises of its parts: they lie within the message, with the sizes that a reply relies on.
+-- What a message that was read promises of its parts: they lie within the message, with the sizes that a reply relies
+-- on.
 -- Assumes nothing.
 use Prim.Native.Nat.{ℕ, _≤_, _<_}
 use native.Mathlib.Omega.{arith}
@@ -14,9 +15,9 @@ use Rattle.objects.proofs.Placed.{walk-placed}
 use Rattle.objects.specs.declared.fault.Fault.{Fault}
 use Rattle.objects.specs.declared.walk.Objects.{Objects}
 use Rattle.objects.specs.declared.walk.Walked.{Walked}
-use Rattle.objects.specs.declared.walk.Walked.the-variants.{Stopped, Whole}
-use Rattle.messages.specs.declared.header.Kind.{Kind}
-use Rattle.messages.specs.declared.header.Kind.the-variants.{Path, PathTear, Notify}
+use Rattle.objects.specs.declared.walk.Walked.the-variants.{Stopped, Finished}
+use Rattle.messages.specs.declared.header.MessageType.{MessageType}
+use Rattle.messages.specs.declared.header.MessageType.the-variants.{Path, PathTear, Notify}
 use Rattle.messages.specs.declared.header.Header.{Header}
 use Rattle.messages.specs.declared.header.Header.the-variants.{Bad, Good}
 use Rattle.messages.specs.declared.message.Message.{Message}
@@ -105,18 +106,18 @@ module _ (s : List ℕ) where
   unfolding pathOf
   path v adds g = either (not (pathComplete v)) _ _ (λ _. refused _ _ _) (λ e. either adds _ _ (λ _. as-read _ _ (connection v g (not-false _ e))) (λ _. as-read _ _ (connection v g (not-false _ e))))
 
-  by-kind : (kind : Kind) (v : Objects) → Placed s v → Promised s (objectsRead s kind v)
-  by-kind Path v g = path v true g
-  by-kind PathTear v g = path v false g
-  by-kind Notify v g = notify v g
+  by-type : (mtype : MessageType) (v : Objects) → Placed s v → Promised s (objectsRead s mtype v)
+  by-type Path v g = path v true g
+  by-type PathTear v g = path v false g
+  by-type Notify v g = notify v g
 
-  by-walk : (kind : Kind) (w : Walked) → walkOf s ≡ w → Promised s (walkedRead s kind w)
-  by-walk kind (Stopped fault offset headers) e = refused _ _ _
-  by-walk kind (Whole v) e = by-kind kind v (walk-placed s v e)
+  by-walk : (mtype : MessageType) (w : Walked) → walkOf s ≡ w → Promised s (walkedRead s mtype w)
+  by-walk mtype (Stopped fault offset headers) e = refused _ _ _
+  by-walk mtype (Finished v) e = by-type mtype v (walk-placed s v e)
 
   by-header : (h : Header) → Promised s (headerRead s h)
   by-header (Bad fault) = refused _ _ _
-  by-header (Good kind) = by-walk kind (walkOf s) refl
+  by-header (Good mtype) = by-walk mtype (walkOf s) refl
 
   promised : Promised s (readOf s)
   unfolding readOf

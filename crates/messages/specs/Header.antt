@@ -7,7 +7,7 @@ use lib.Dec.{ltb, eqb}
 use Rattle.numbers.specs.BigEndian.{be16At}
 use Rattle.numbers.specs.Checksum.{wordsSum}
 use Rattle.objects.specs.declared.fault.Fault.the-variants.{MessageLength, Version, Checksum, MessageType}
-use Rattle.messages.specs.declared.header.Kind.the-variants.{Path, PathTear, Notify}
+use Rattle.messages.specs.declared.header.MessageType.the-variants.{Path, PathTear, Notify}
 use Rattle.messages.specs.declared.header.Header.{Header}
 use Rattle.messages.specs.declared.header.Header.the-variants.{Bad, Good}
 
@@ -20,8 +20,8 @@ unfoldable pub checksumHolds : List ℕ → Bool
 checksumHolds s = eqb (be16At s 2) 0 || eqb (wordsSum s) 65535
 
 -- the types taken: 1, 5 and 21; any other is 6
-unfoldable pub kindOf : ℕ → Header
-kindOf number =
+unfoldable pub typeOf : ℕ → Header
+typeOf number =
     cond (eqb number 1) (Good Path)
     (cond (eqb number 5) (Good PathTear)
     (cond (eqb number 21) (Good Notify)
@@ -32,4 +32,4 @@ headerOf s =
     cond (badMessageLength s) (Bad MessageLength)
     (cond (not (eqb (getD s 0 0 / 16) 1)) (Bad Version)
     (cond (not (checksumHolds s)) (Bad Checksum)
-    (kindOf (getD s 1 0))))
+    (typeOf (getD s 1 0))))

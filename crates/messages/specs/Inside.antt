@@ -1,4 +1,5 @@
--- What a message that was read has: its parts lie within it, with the sizes that a reply relies on, and a request names a call.
+-- What a message that was read has: its parts lie within it, with the sizes that a reply relies on, and a request names
+-- a call.
 use Prim.Native.Nat.{ℕ, _≤_, _<_}
 use mathlib.Core.Path.{_≡_}
 use mathlib.Core.List.{List}

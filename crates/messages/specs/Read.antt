@@ -1,5 +1,6 @@
 -- What a message of any bytes is read as: tests 3 to 10, then for a Notify 12 and 13 (01, Every answer), then its kind.
--- Test 11, on the sender, lies between 10 and 12 and wants the roster: what 12 or 13 refuses is handed up with its sender.
+-- Test 11, on the sender, lies between 10 and 12 and wants the roster: what 12 or 13 refuses is handed up with its
+-- sender.
 use Prim.Native.Nat.{ℕ, _+_}
 use mathlib.Core.List.{List}
 use mathlib.Core.Bool.{Bool, true, false, cond, not, _&&_, _||_}
@@ -11,9 +12,9 @@ use Rattle.objects.specs.Walk.{walkOf}
 use Rattle.objects.specs.declared.fault.Fault.the-variants.{ObjectCount, NotCallRequest, CallIdentity}
 use Rattle.objects.specs.declared.walk.Objects.{Objects}
 use Rattle.objects.specs.declared.walk.Walked.{Walked}
-use Rattle.objects.specs.declared.walk.Walked.the-variants.{Stopped, Whole}
-use Rattle.messages.specs.declared.header.Kind.{Kind}
-use Rattle.messages.specs.declared.header.Kind.the-variants.{Path, PathTear, Notify}
+use Rattle.objects.specs.declared.walk.Walked.the-variants.{Stopped, Finished}
+use Rattle.messages.specs.declared.header.MessageType.{MessageType}
+use Rattle.messages.specs.declared.header.MessageType.the-variants.{Path, PathTear, Notify}
 use Rattle.messages.specs.declared.header.Header.{Header}
 use Rattle.messages.specs.declared.header.Header.the-variants.{Bad, Good}
 use Rattle.messages.specs.declared.message.Message.the-variants.{Open, Close, Add, Drop}
@@ -55,18 +56,18 @@ pathOf s v adds =
     (Read (Drop (connectionAt s (v .session .at) (v .template .at))) (v .headers)))
 
 -- a message whose objects have all been walked over
-abbrev pub objectsRead : List ℕ → Kind → Objects → Reading
+abbrev pub objectsRead : List ℕ → MessageType → Objects → Reading
 objectsRead s Path v = pathOf s v true
 objectsRead s PathTear v = pathOf s v false
 objectsRead s Notify v = notifyOf s v
 
-abbrev pub walkedRead : List ℕ → Kind → Walked → Reading
-walkedRead s kind (Stopped fault offset headers) = Refused fault offset headers
-walkedRead s kind (Whole v) = objectsRead s kind v
+abbrev pub walkedRead : List ℕ → MessageType → Walked → Reading
+walkedRead s mtype (Stopped fault offset headers) = Refused fault offset headers
+walkedRead s mtype (Finished v) = objectsRead s mtype v
 
 abbrev pub headerRead : List ℕ → Header → Reading
 headerRead s (Bad fault) = Refused fault 0 0
-headerRead s (Good kind) = walkedRead s kind (walkOf s)
+headerRead s (Good mtype) = walkedRead s mtype (walkOf s)
 
 unfoldable pub readOf : List ℕ → Reading
 readOf s = headerRead s (headerOf s)

@@ -2,13 +2,13 @@
 ghost use mathlib.Core.Path.{_≡_};
 ghost use Prim.Native.Nat.{_≤_};
 ghost use lib.ListN.{length};
-ghost use Rattle.messages.specs.Header.{badMessageLength, checksumHolds, kindOf, headerOf};
+ghost use Rattle.messages.specs.Header.{badMessageLength, checksumHolds, typeOf, headerOf};
 use numbers::big_endian::get16;
 use numbers::checksum::words_sum;
 use objects::fault::Fault;
 
 // The message types that the node takes.
-pub enum Kind {
+pub enum MessageType {
     Path,
     PathTear,
     Notify,
@@ -16,7 +16,7 @@ pub enum Kind {
 
 pub enum Header {
     Bad(Fault),
-    Good(Kind),
+    Good(MessageType),
 }
 
 fn bad_message_length(s: &[u8]) -> bool
@@ -41,17 +41,17 @@ fn checksum_holds(s: &[u8]) -> bool
     words_sum(s) == 65535
 }
 
-fn kind_of(number: u8) -> Header
-    ensures { λ r. ⌜ r ≡ kindOf number ⌝ }
+fn type_of(number: u8) -> Header
+    ensures { λ r. ⌜ r ≡ typeOf number ⌝ }
 {
     if number == 1 {
-        return Header::Good(Kind::Path);
+        return Header::Good(MessageType::Path);
     }
     if number == 5 {
-        return Header::Good(Kind::PathTear);
+        return Header::Good(MessageType::PathTear);
     }
     if number == 21 {
-        return Header::Good(Kind::Notify);
+        return Header::Good(MessageType::Notify);
     }
     Header::Bad(Fault::MessageType)
 }
@@ -68,5 +68,5 @@ pub fn read_header(s: &[u8]) -> Header
     if !checksum_holds(s) {
         return Header::Bad(Fault::Checksum);
     }
-    kind_of(s[1])
+    type_of(s[1])
 }

@@ -8,7 +8,7 @@ ghost use Rattle.messages.specs.Fields.{connectionAt, requestAt};
 ghost use Rattle.messages.specs.Counts.{notifyComplete, pathComplete};
 ghost use Rattle.messages.specs.Read.{isCallRequest, badIdentity, notifyOf, pathOf, objectsRead, readOf};
 use crate::header::Header;
-use crate::header::Kind;
+use crate::header::MessageType;
 use crate::header::read_header;
 use crate::message::CallRequest;
 use crate::message::Connection;
@@ -50,7 +50,7 @@ pub enum Reading {
     },
 }
 
-// Every object of the table once.
+// Every object of the table once, but for MESSAGE_ID_ACK, which is only written.
 fn notify_complete(v: Objects) -> bool
     ensures { λ r. ⌜ r ≡ notifyComplete v ⌝ }
 {
@@ -113,7 +113,7 @@ fn request_at(
         call: CallId(get16(s, session + 8)),
         name: Part {
             at: attribute + 8,
-            size: widened(s[attribute + 7]),
+            size: to_usize(s[attribute + 7]),
         },
         id: MessageId {
             epoch: get24(s, identifier + 5),
@@ -134,7 +134,7 @@ fn request_at(
     }
 }
 
-fn widened(b: u8) -> usize
+fn to_usize(b: u8) -> usize
     ensures { λ r. ⌜ r ≡ b ⌝ }
 {
     b as usize
@@ -231,25 +231,25 @@ fn read_path(s: &[u8], v: Objects, adds: bool) -> Reading
     }
 }
 
-fn adds(kind: Kind) -> bool
-    ensures { λ r. ⌜ (kind ≡ Kind.Path → r ≡ true) × (kind ≡ Kind.PathTear → r ≡ false) ⌝ }
+fn adds(mtype: MessageType) -> bool
+    ensures { λ r. ⌜ (mtype ≡ MessageType.Path → r ≡ true) × (mtype ≡ MessageType.PathTear → r ≡ false) ⌝ }
 {
-    match kind {
-        Kind::Path => true,
-        Kind::PathTear => false,
-        Kind::Notify => false,
+    match mtype {
+        MessageType::Path => true,
+        MessageType::PathTear => false,
+        MessageType::Notify => false,
     }
 }
 
 // One call of `read_path` for both kinds, so that it is inlined and what the walk has seen stays in registers.
-fn read_objects(s: &[u8], kind: Kind, v: Objects) -> Reading
+fn read_objects(s: &[u8], mtype: MessageType, v: Objects) -> Reading
     requires { ⌜ Placed (now s) v ⌝ }
-    ensures { λ r. ⌜ r ≡ objectsRead (now (s .entry)) kind v ⌝ }
+    ensures { λ r. ⌜ r ≡ objectsRead (now (s .entry)) mtype v ⌝ }
 {
-    if let Kind::Notify = kind {
+    if let MessageType::Notify = mtype {
         return read_notify(s, v);
     }
-    read_path(s, v, adds(kind))
+    read_path(s, v, adds(mtype))
 }
 
 // Reads a message of any bytes: tests 3 to 10, 12 and 13.
@@ -262,7 +262,7 @@ pub fn read(s: &[u8]) -> Reading
             offset: 0,
             headers: 0,
         },
-        Header::Good(kind) => match walk(s) {
+        Header::Good(mtype) => match walk(s) {
             Walked::Stopped {
                 fault,
                 offset,
@@ -272,7 +272,7 @@ pub fn read(s: &[u8]) -> Reading
                 offset,
                 headers,
             },
-            Walked::Whole(v) => read_objects(s, kind, v),
+            Walked::Finished(v) => read_objects(s, mtype, v),
         },
     }
 }

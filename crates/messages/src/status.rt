@@ -12,7 +12,7 @@ pub const C: u32 = 8;
 // Deletion in progress: the call is to be closed.
 pub const D: u32 = 1;
 
-// Whether a bit is set, given by its value: a power of two, so never zero.
+// Whether a bit is set, given by its value, one of the three above. It divides by it, and so asks that it is not zero.
 pub fn bit_set(bit: u32, bits: u32) -> bool
     requires { ⌜ 0 < bit ⌝ }
     ensures { λ r. ⌜ r ≡ bitSet bit bits ⌝ }

@@ -7,19 +7,20 @@ ghost use Rattle.messages.specs.Inside.{Inside};
 ghost use Rattle.table.specs.Lists.{roster};
 ghost use Rattle.table.specs.Share.{listed};
 ghost use Rattle.table.specs.Rules.{rulesHold};
-ghost use Rattle.calls.specs.Form.{senderOf};
-ghost use Rattle.calls.specs.Handling.{ruled, handled};
-use crate::connections::add_connection;
-use crate::connections::drop_connection;
-use crate::outcome::Outcome;
-use crate::outcome::unanswered;
-use crate::requests::close_call;
-use crate::requests::open_call;
+ghost use Rattle.spec_calls.specs.Form.{senderOf};
+ghost use Rattle.spec_calls.specs.Handling.{handled};
+ghost use Rattle.outcomes.specs.Outcomes.{handedBack, ruled};
+use answer_call::close_call;
+use answer_call::open_call;
+use answer_connection::add_connection;
+use answer_connection::drop_connection;
 use answers::answer::Answer;
-use lookups::share::listing_of;
+use find_call::share::listing_of;
 use messages::message::Message;
 use messages::read::Reading;
 use messages::read::read;
+use outcomes::outcome::Outcome;
+use outcomes::outcome::unanswered;
 use rules::rules_hold;
 use table::state::Table;
 
@@ -37,7 +38,7 @@ fn sender_of(m: Message) -> u32
 // A message of no fault, by its kind.
 fn handle_message(t: Table, msg: &[u8], m: Message, reply: &mut [u8]) -> Outcome
     requires { ⌜ (rulesHold t ≡ true) × (listed (roster t) (senderOf m) ≡ true) × Inside (now msg) m × (128 ≤ length (now reply)) ⌝ }
-    ensures { λ r. ⌜ record { answer = r .answer; length = r .length; table = r .table; buffer = now (reply .exit) } ≡ ruled t (now (msg .entry)) (now (reply .entry)) m ⌝ }
+    ensures { λ r. ⌜ handedBack r (now (reply .exit)) ≡ ruled t (now (msg .entry)) (now (reply .entry)) m ⌝ }
 {
     match m {
         Message::Open(q) => open_call(t, msg, q, reply),
@@ -50,7 +51,7 @@ fn handle_message(t: Table, msg: &[u8], m: Message, reply: &mut [u8]) -> Outcome
 // The tests from 2 on: for a table that keeps the rules, as a Bundle's messages will find it.
 fn handle_checked(t: Table, msg: &[u8], reply: &mut [u8]) -> Outcome
     requires { ⌜ rulesHold t ≡ true ⌝ }
-    ensures { λ r. ⌜ record { answer = r .answer; length = r .length; table = r .table; buffer = now (reply .exit) } ≡ handled t (now (msg .entry)) (now (reply .entry)) ⌝ }
+    ensures { λ r. ⌜ handedBack r (now (reply .exit)) ≡ handled t (now (msg .entry)) (now (reply .entry)) ⌝ }
 {
     if reply.len() < 128 {
         return unanswered(t, Answer::BufferTooSmall);
@@ -85,7 +86,7 @@ fn handle_checked(t: Table, msg: &[u8], reply: &mut [u8]) -> Outcome
 
 // Handles a message: any table, any bytes, any buffer.
 pub fn handle(t: Table, msg: &[u8], reply: &mut [u8]) -> Outcome
-    ensures { λ r. ⌜ record { answer = r .answer; length = r .length; table = r .table; buffer = now (reply .exit) } ≡ handled t (now (msg .entry)) (now (reply .entry)) ⌝ }
+    ensures { λ r. ⌜ handedBack r (now (reply .exit)) ≡ handled t (now (msg .entry)) (now (reply .entry)) ⌝ }
 {
     if rules_hold(t) {
         return handle_checked(t, msg, reply);

@@ -1,6 +1,2 @@
 // The node's call side: one message is answered, with the table handed in by value and a reply buffer lent.
-mod connections;
 pub mod handle;
-pub mod outcome;
-mod requests;
-mod sending;

@@ -1,5 +1,5 @@
--- Carries that go round take away multiples of 65,535 alone. So the sum of words whose bytes are exchanged is, with its own bytes exchanged, the
--- sum of the words: the one is 256 times the other but for such multiples.
+-- Carries that go round take away multiples of 65,535 alone. So the sum of words whose bytes are exchanged is, with its
+-- own bytes exchanged, the sum of the words: the one is 256 times the other but for such multiples.
 -- Assumes nothing.
 use Prim.Native.Nat.{ℕ, _+_, _-_, _*_, _/_, _%_, _≤_}
 use native.Mathlib.Nat.{eq-zero-or-pos}

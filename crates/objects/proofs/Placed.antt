@@ -16,7 +16,7 @@ use Rattle.objects.specs.declared.object.Item.the-variants.{End, Faulty,
 use Rattle.objects.specs.declared.walk.Seen.{Seen}
 use Rattle.objects.specs.declared.walk.Objects.{Objects}
 use Rattle.objects.specs.declared.walk.Walked.{Walked}
-use Rattle.objects.specs.declared.walk.Walked.the-variants.{Whole}
+use Rattle.objects.specs.declared.walk.Walked.the-variants.{Finished}
 use Rattle.objects.specs.Classes.{session, errorSpec, senderTemplate, messageId, adminStatus, sessionAttribute, passedOver}
 use Rattle.objects.specs.Forms.{hasForm, nameLength, roundedUpTo4, attributeFormed, formed, misformed}
 use Rattle.objects.specs.Item.{itemAt}
@@ -95,13 +95,13 @@ module _ (s : List ℕ) (read : List Object) (all : AllFound s read) where
     attribute = name-reaches;
   }
 
-same : (v w : Objects) → Whole v ≡ Whole w → v ≡ w
+same : (v w : Objects) → Finished v ≡ Finished w → v ≡ w
 same v w e = cc
 
 -- one step, with what the rest of the walk keeps
 step : (s : List ℕ) (at : ℕ) (read : List Object) (v : Objects) (rest : ℕ → List Object → Walked)
-    → ((at′ : ℕ) (read′ : List Object) → AllFound s read′ → rest at′ read′ ≡ Whole v → Placed s v)
-    → AllFound s read → (i : Item) → itemAt s at ≡ i → onItem i at read rest ≡ Whole v → Placed s v
+    → ((at′ : ℕ) (read′ : List Object) → AllFound s read′ → rest at′ read′ ≡ Finished v → Placed s v)
+    → AllFound s read → (i : Item) → itemAt s at ≡ i → onItem i at read rest ≡ Finished v → Placed s v
 step s at read v rest keep all End e d = subst (Placed s) (same _ v d) (placed s read all)
 step s at read v rest keep all (Faulty fault) e d = let z : _≡_ {A = ℕ} 0 1 = cc in absurd (omega arith)
 step s at read v rest keep all (Found o) e d =
@@ -109,11 +109,11 @@ step s at read v rest keep all (Found o) e d =
     let here : itemAt s (o .at) ≡ Found o = ap (itemAt s) (sym (ap (λ (p : Object). p .at) (f .is))) ∙ e in
     keep (at + o .len) (o ∷ read) (here, all) d
 
-placed-from : (n : ℕ) (s : List ℕ) (at : ℕ) (read : List Object) (v : Objects) → AllFound s read → walkFrom n s at read ≡ Whole v → Placed s v
+placed-from : (n : ℕ) (s : List ℕ) (at : ℕ) (read : List Object) (v : Objects) → AllFound s read → walkFrom n s at read ≡ Finished v → Placed s v
 unfolding walkFrom
 placed-from zero s at read v all e = subst (Placed s) (same _ v e) (placed s read all)
 placed-from (suc n) s at read v all e = step s at read v (walkFrom n s) (λ at′ read′. placed-from n s at′ read′ v) all (itemAt s at) refl e
 
-pub walk-placed : (s : List ℕ) (v : Objects) → walkOf s ≡ Whole v → Placed s v
+pub walk-placed : (s : List ℕ) (v : Objects) → walkOf s ≡ Finished v → Placed s v
 unfolding walkOf
 walk-placed s v e = placed-from (length s) s 8 [] v tt e

@@ -14,7 +14,7 @@ use Rattle.objects.specs.declared.fault.Fault.{Fault}
 use Rattle.objects.specs.declared.fault.Fault.the-variants.{ObjectLength, ObjectClass, ObjectForm}
 use Rattle.objects.specs.declared.object.Object.{Object}
 use Rattle.objects.specs.declared.object.Item.the-variants.{End, Faulty, Found}
-use Rattle.objects.specs.declared.walk.Walked.the-variants.{Stopped, Whole}
+use Rattle.objects.specs.declared.walk.Walked.the-variants.{Stopped, Finished}
 use Rattle.objects.specs.Classes.{session, errorSpec, senderTemplate, messageId, adminStatus, sessionAttribute, refusedClass}
 use Rattle.objects.specs.Forms.{misformed}
 use Rattle.objects.specs.Item.{objectAt, badLength, itemAt}
@@ -104,7 +104,7 @@ module _ (s : List ℕ) (at : ℕ) (read : List Object) where
   unfolding itemAt
   past h = rw (le-leb _ _ h)
 
-  pub ended : (n : ℕ) → itemAt s at ≡ End → walkFrom n s at read ≡ Whole (objectsOf read)
+  pub ended : (n : ℕ) → itemAt s at ≡ End → walkFrom n s at read ≡ Finished (objectsOf read)
   unfolding walkFrom
   ended zero e = refl
   ended (suc n) e = rw e

@@ -1,4 +1,5 @@
--- The number of each fault of form (01, Every answer). 11 wants the roster and is the call table's.
+-- The number of each fault of form that a message's bytes alone show (01, Every answer). Of the others, 1 and 2 are
+-- tested on table and buffer, and 11 wants the roster.
 use Prim.Native.Nat.{ℕ}
 use Rattle.objects.specs.declared.fault.Fault.{Fault}
 use Rattle.objects.specs.declared.fault.Fault.the-variants.{MessageLength, Version, Checksum, MessageType, ObjectLength, ObjectClass, ObjectForm, ObjectCount, NotCallRequest, CallIdentity}

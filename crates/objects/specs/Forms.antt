@@ -25,7 +25,8 @@ attributeFormed s o =
     hasForm o 7 (8 + roundedUpTo4 (nameLength s (o .at)))
     && zerosAt s (o .at + 8 + nameLength s (o .at)) (o .len - 8 - nameLength s (o .at))
 
--- an object is as its row of the table says; a class with no row is in no such form
+-- an object is as its row of the table says; a class that is not read is in no such form, MESSAGE_ID_ACK, whose row is
+-- for writing, among them
 unfoldable pub formed : List ℕ → Object → Bool
 formed s o =
     cond (eqb (o .class) session) (hasForm o 7 16)

@@ -1,4 +1,5 @@
--- What stands at a place of a message: nothing more, an object, or a faulty one, with 7 tested before 8 before 9 (01, Every answer).
+-- What stands at a place of a message: nothing more, an object, or a faulty one, with 7 tested before 8 before 9 (01,
+-- Every answer).
 use Prim.Native.Nat.{ℕ, _+_, _-_, _%_}
 use mathlib.Core.List.{List}
 use mathlib.Core.Bool.{Bool, cond, not, _||_}

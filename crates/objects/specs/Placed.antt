@@ -1,4 +1,5 @@
--- What the walk promises of the objects it has seen: each lies within the message, with the length of its row (01, Message layout).
+-- What the walk promises of the objects it has seen: each lies within the message, with the length of its row (01,
+-- Message layout).
 use Prim.Native.Nat.{ℕ, _+_, _≤_, _<_}
 use mathlib.Core.Path.{_≡_}
 use mathlib.Core.List.{List}

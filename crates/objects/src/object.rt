@@ -1,9 +1,7 @@
 // One object of a message: its header, whether its class is read, and the table of forms.
 ghost use mathlib.Core.Path.{_≡_};
-ghost use mathlib.Core.Bool.{Bool, _&&_};
 ghost use Prim.Native.Nat.{_+_, _≤_, _<_};
 ghost use lib.ListN.{length};
-ghost use lib.Dec.{eqb};
 ghost use Rattle.numbers.specs.Search.{isIn};
 ghost use Rattle.objects.specs.Classes.{readClasses, passedOver};
 ghost use Rattle.objects.specs.Forms.{hasForm, attributeFormed, formed};
@@ -71,7 +69,7 @@ fn has_form(o: Object, ctype: u8, len: usize) -> bool
     (o.ctype == ctype) & (o.len == len)
 }
 
-// Length and padding of a SESSION_ATTRIBUTE. Here and below, the object lies within the message:
+// C-Type, length and padding of a SESSION_ATTRIBUTE. Here and below, the object lies within the message:
 // `bad_length` has been tested.
 fn attribute_formed(s: &[u8], o: Object) -> bool
     requires { ⌜ o .at + o .len ≤ length (now s) ⌝ }
@@ -140,8 +138,8 @@ fn object_at(s: &[u8], at: usize) -> Object
     }
 }
 
-// What stands at a place of a message: any bytes, any place. A formed object's class is one that is read, so 8 is told from 9 only
-// where there is a fault.
+// What stands at a place of a message: any bytes, any place. A formed object's class is one that is read, so 8 is told
+// from 9 only where there is a fault.
 pub fn item_at(s: &[u8], at: usize) -> Item
     ensures { λ r. ⌜ r ≡ itemAt (now (s .entry)) at ⌝ }
 {

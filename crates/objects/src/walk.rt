@@ -2,7 +2,7 @@
 ghost use mathlib.Core.Path.{_≡_};
 ghost use mathlib.Core.List.{[]};
 ghost use Prim.Native.Nat.{_+_, _<_};
-ghost use Rattle.objects.specs.Walk.{sighting, withObject, objectsOf, walkOf};
+ghost use Rattle.objects.specs.Walk.{withObject, objectsOf, walkOf};
 use crate::fault::Fault;
 use crate::object::ADMIN_STATUS;
 use crate::object::ERROR_SPEC;
@@ -38,11 +38,11 @@ pub enum Walked {
         offset: usize,
         headers: usize,
     },
-    Whole(Objects),
+    Finished(Objects),
 }
 
 // What is seen of a class after one more object of it. No count reaches the object's place, so each fits.
-fn sighted(before: Seen, at: usize) -> Seen
+fn seen_once_more(before: Seen, at: usize) -> Seen
     requires { ⌜ before .times < at ⌝ }
     ensures { λ r. ⌜ r ≡ record { at = at; times = before .times + 1 } ⌝ }
 {
@@ -58,27 +58,27 @@ fn with_object(mut v: Objects, o: Object) -> Objects
 {
     v.headers += 1;
     if o.class == SESSION {
-        v.session = sighted(v.session, o.at);
+        v.session = seen_once_more(v.session, o.at);
         return v;
     }
     if o.class == ERROR_SPEC {
-        v.error = sighted(v.error, o.at);
+        v.error = seen_once_more(v.error, o.at);
         return v;
     }
     if o.class == SENDER_TEMPLATE {
-        v.template = sighted(v.template, o.at);
+        v.template = seen_once_more(v.template, o.at);
         return v;
     }
     if o.class == MESSAGE_ID {
-        v.identifier = sighted(v.identifier, o.at);
+        v.identifier = seen_once_more(v.identifier, o.at);
         return v;
     }
     if o.class == ADMIN_STATUS {
-        v.status = sighted(v.status, o.at);
+        v.status = seen_once_more(v.status, o.at);
         return v;
     }
     if o.class == SESSION_ATTRIBUTE {
-        v.attribute = sighted(v.attribute, o.at);
+        v.attribute = seen_once_more(v.attribute, o.at);
         return v;
     }
     v
@@ -106,7 +106,7 @@ pub fn walk(s: &[u8]) -> Walked
     let mut at = 8;
     loop {
         match item_at(s, at) {
-            Item::End => return Walked::Whole(seen),
+            Item::End => return Walked::Finished(seen),
             Item::Faulty(fault) => {
                 return Walked::Stopped {
                     fault,

@@ -1,4 +1,4 @@
 pub mod Lengths
-pub mod Seal
+pub mod Filled
 pub mod Written
 pub mod WorkedExample

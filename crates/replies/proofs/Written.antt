@@ -7,7 +7,8 @@ use mathlib.Core.List.{List, _++_}
 use lib.ListN.{length, length-append, length-take, length-drop}
 use Rattle.numbers.specs.Buffer.{atFront}
 use Rattle.numbers.proofs.Buffer.{backAt, partAt, next}
-use Rattle.replies.specs.Messages.{headerBytes, unsealed}
+use Rattle.reply_objects.specs.Header.{headerBytes}
+use Rattle.replies.specs.Messages.{beforeChecksum}
 
 -- what the next writer is lent
 pub tail-length : (xs : List ℕ) (a : ℕ) → length (partAt xs a) ≡ length xs - a
@@ -36,8 +37,8 @@ more {xs} {ys} {bs} {l} {a} cs w e h (q, p) = record {
 }
 
 -- a header that says the length of the whole, with all objects behind it
-pub whole : {xs l : List ℕ} {r n : ℕ} (kind len : ℕ) (objects : List ℕ) → Written xs (headerBytes kind len ++ objects) l r n → length (unsealed kind objects) ≡ len
-    → (r ≡ len) × (xs ≡ atFront (unsealed kind objects) l)
-whole kind len objects w h =
+pub complete : {xs l : List ℕ} {r n : ℕ} (kind len : ℕ) (objects : List ℕ) → Written xs (headerBytes kind len ++ objects) l r n → length (beforeChecksum kind objects) ≡ len
+    → (r ≡ len) × (xs ≡ atFront (beforeChecksum kind objects) l)
+complete kind len objects w h =
     let t : len ≡ 8 + length objects = omega arith in
     (omega arith, rw (← t) (w .is))

@@ -1,3 +1,3 @@
-// Writes the node's replies: one writer for each object, and the two whole messages.
-pub mod messages;
-pub mod writers;
+// The two messages that the node sends, each complete.
+pub mod notify;
+pub mod path_err;

@@ -1,19 +1,21 @@
-// Reads a table back: three frames on standard input, a 32-bit length and that many bytes each: a mode byte (0 plain, 1 salvage), the
-// roster, the copy. It prints the roster's answer, the copy's with how many records were dropped, and what the table then holds. A cut frame
-// prints `cut` and ends it.
+// Reads a table back: three frames on standard input, a 32-bit length and that many bytes each: a mode byte (0 plain, 1
+// salvage), the roster, the copy. It prints the roster's answer, the copy's with how many records were dropped, and
+// what the table then holds. A cut frame prints `cut` and ends it.
 ghost use mathlib.Core.Path.{_≡_};
 ghost use Prim.Native.Nat.{_≤_, min};
+use checkpoint_read::read_checkpoint;
 use libc::STDIN_FILENO;
 use libc::STDOUT_FILENO;
-use lists::widened;
+use lists::to_usize;
 use numbers::big_endian::get32;
-use restoring::restore;
 use rosters::read_roster;
 use table::answer::roster_number;
 use table::state::Call;
 use table::state::Customer;
+use table::state::SLOTS;
 use table::state::Table;
 use table::state::name_size;
+use table::word::is_used;
 
 enum Frame {
     Cut,
@@ -86,7 +88,7 @@ fn print_call(slot: usize, c: Call) {
     let n = name_size(c.size);
     let mut k: usize = 0;
     while k < n {
-        io::print_hex(STDOUT_FILENO, widened(c.name[k]) as u64, 2);
+        io::print_hex(STDOUT_FILENO, to_usize(c.name[k]) as u64, 2);
         k += 1;
     }
     print_text(b"\n");
@@ -121,7 +123,7 @@ fn print_under(c: Call) {
     }
 }
 
-fn print_loose(m: Customer) {
+fn print_standalone(m: Customer) {
     let mut j: usize = 0;
     while j < 4 {
         let p = m.places[j];
@@ -135,15 +137,15 @@ fn print_loose(m: Customer) {
 // Calls in slot order, connections in the order of a copy. Free slots and unused records hold no connections.
 fn print_table(t: Table) {
     let mut i: usize = 0;
-    while i < 64 {
+    while i < SLOTS {
         let c = t.calls[i];
-        if (t.occupied >> i) % 2 == 1 {
+        if is_used(t.occupied, i) {
             print_call(i, c);
         }
         i += 1;
     }
     let mut m: usize = 0;
-    while m < 64 {
+    while m < SLOTS {
         let c = t.calls[m];
         print_under(c);
         m += 1;
@@ -151,7 +153,7 @@ fn print_table(t: Table) {
     let mut k: usize = 0;
     while k < 8 {
         let c = t.customers[k];
-        print_loose(c);
+        print_standalone(c);
         k += 1;
     }
 }
@@ -162,7 +164,7 @@ fn read_table(salvage: bool, roster: &[u8], copy: &[u8]) {
     print_text(b"roster");
     print_number(roster_number(answer) as u64);
     print_text(b"\ncopy");
-    let r = restore(salvage, roster, copy);
+    let r = read_checkpoint(salvage, roster, copy);
     let table = r.table;
     print_number(r.answer as u64);
     print_number(r.calls as u64);

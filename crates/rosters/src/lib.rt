@@ -3,6 +3,7 @@ ghost use mathlib.Core.Path.{_≡_};
 ghost use Prim.Native.Nat.{_+_, _*_, _≤_, _<_};
 ghost use lib.ListN.{length};
 ghost use Rattle.lists.specs.Count.{has};
+ghost use Rattle.table.specs.Total.{total};
 ghost use Rattle.table.specs.Zeros.{emptyTable};
 ghost use Rattle.table.specs.Share.{isAt};
 ghost use Rattle.table.specs.Rules.{badShare};
@@ -12,11 +13,13 @@ use numbers::big_endian::get24;
 use numbers::big_endian::get32;
 use table::answer::RosterAnswer;
 use table::state::Customer;
+use table::state::SLOTS;
+use table::state::TOTAL;
 use table::state::Table;
 use table::state::empty_table;
 use table::state::no_call;
 use table::state::no_customer;
-use table::state::no_loose_place;
+use table::state::no_standalone_place;
 
 pub struct RosterRead {
     pub answer: RosterAnswer,
@@ -34,9 +37,9 @@ fn refused(answer: RosterAnswer) -> RosterRead
 
 // Limit 0, limit above the total, or guarantee above limit.
 fn bad_share(guarantee: u16, limit: u16) -> bool
-    ensures { λ r. ⌜ r ≡ badShare 64 (record { address = 0; guarantee = guarantee; limit = limit }) ⌝ }
+    ensures { λ r. ⌜ r ≡ badShare total (record { address = 0; guarantee = guarantee; limit = limit }) ⌝ }
 {
-    (limit == 0) | (64 < limit) | (limit < guarantee)
+    (limit == 0) | (TOTAL < limit as usize) | (limit < guarantee)
 }
 
 // An address stands in one of the first k records. Here and below, the records lie within the roster: its
@@ -60,7 +63,7 @@ fn customer_at(s: &[u8], k: usize) -> Customer
     ensures { λ r. ⌜ r ≡ customerIn (now (s .entry)) k ⌝ }
 {
     let word = get16(s, 12 + 6 * k);
-    let places = [no_loose_place(); 4];
+    let places = [no_standalone_place(); 4];
     Customer {
         address: get32(s, 8 + 6 * k),
         guarantee: (word / 512) as u8,
@@ -73,7 +76,7 @@ fn accepted(s: &[u8], n: u8, customers: [Customer; 8]) -> RosterRead
     requires { ⌜ (8 ≤ length (now s)) × (n ≡ customersIn (now s)) × (customers ≡ customersFrom (now s) n) ⌝ }
     ensures { λ r. ⌜ (r .answer ≡ RosterAnswer.Accepted) × (r .table ≡ freshTable (now (s .entry))) ⌝ }
 {
-    let calls = [no_call(); 64];
+    let calls = [no_call(); SLOTS];
     let table = Table {
         address: get32(s, 1),
         epoch: get24(s, 5),
@@ -96,7 +99,7 @@ fn read_records(s: &[u8], n: u8) -> RosterRead
 {
     let count = n as usize;
     let mut customers = [no_customer(); 8];
-    let mut sum: u32 = 0;
+    let mut sum: usize = 0;
     let mut k: usize = 0;
     while k < count {
         let word = get16(s, 12 + 6 * k);
@@ -110,10 +113,10 @@ fn read_records(s: &[u8], n: u8) -> RosterRead
             return refused(RosterAnswer::Repeated);
         }
         customers[k] = customer_at(s, k);
-        sum += (word / 512) as u32;
+        sum += (word / 512) as usize;
         k += 1;
     }
-    if 64 < sum {
+    if TOTAL < sum {
         return refused(RosterAnswer::Guarantees);
     }
     accepted(s, n, customers)

@@ -1,14 +1,14 @@
 // The test behind answer 1: every table rule, over the whole table.
 ghost use mathlib.Core.Path.{_≡_};
 ghost use Rattle.table.specs.Rules.{rulesHold};
-use limits::roster_holds;
-use limits::senders_listed;
-use limits::shares_hold;
-use loose::loose_once;
+use rule_limits::roster_holds;
+use rule_limits::senders_listed;
+use rule_limits::shares_hold;
+use rule_standalone::standalone_once;
+use rule_uniqueness::calls::calls_apart;
+use rule_zeros::free_holds_zeros;
+use rule_zeros::names_and_ids;
 use table::state::Table;
-use uniqueness::calls::calls_apart;
-use zeros::free_holds_zeros;
-use zeros::names_and_ids;
 
 // Whether a table keeps the rules: any table at all.
 pub fn rules_hold(t: Table) -> bool
@@ -18,7 +18,7 @@ pub fn rules_hold(t: Table) -> bool
         & senders_listed(t)
         & shares_hold(t)
         & calls_apart(t)
-        & loose_once(t)
+        & standalone_once(t)
         & names_and_ids(t)
         & free_holds_zeros(t)
 }

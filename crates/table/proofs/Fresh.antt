@@ -8,23 +8,24 @@ use mathlib.Core.List.{List, [], _∷_}
 use mathlib.Core.Bool.{Bool, true, false, cond, not, _||_}
 use lib.Dec.{ltb, eqb}
 use lib.ListN.{length, getD, replicate, getD-replicate}
-use borrow.Author.Tests.{eqb-true, eqb-false, eq-eqb, ne-eqb, ltb-false, lt-ltb, le-ltb, le-leb}
+use borrow.Author.Tests.{eqb-false, ne-eqb, ltb-false, lt-ltb, le-ltb, le-leb}
 use Rattle.numbers.specs.BigEndian.{be24At, be32At}
 use Rattle.numbers.specs.Search.{zerosAt}
 use Rattle.lists.specs.Count.{has, noTwo}
-use Rattle.lists.specs.Below.{when, whole, below, everyBelow}
+use Rattle.lists.specs.Below.{when, listIf, below, everyBelow}
 use Rattle.lists.proofs.Count.{sum-ext, has-nothing}
 use Rattle.lists.proofs.Below.{has-turn, below-ext, below-nothing, below-first, below-more, getD-each, every-within}
 use Rattle.lists.proofs.Pairs.{no-two-append, meet-element}
+use Rattle.lists.proofs.Tests.{eqb-swap}
 use Rattle.table.specs.declared.answer.RosterAnswer.{RosterAnswer}
 use Rattle.table.specs.declared.answer.RosterAnswer.the-variants.{Accepted, Short, Form, Length, SpareBits, Share, Repeated, Guarantees}
 use Rattle.table.specs.declared.state.Table.{Table}
 use Rattle.table.specs.Total.{total}
 use Rattle.table.specs.Word.{isUsed}
 use Rattle.table.specs.Zeros.{noCall, noCustomer, emptyTable, pastCall, pastCustomer}
-use Rattle.table.specs.Lists.{Terms, customerAt, termsOf, listedAt, roster, openAt, entries, heldAt, looseIn, looseAt, held}
+use Rattle.table.specs.Lists.{Terms, customerAt, termsOf, listedAt, roster, openAt, entries, heldAt, standaloneIn, standaloneAt, held}
 use Rattle.table.specs.Share.{isAt, S}
-use Rattle.table.specs.Rules.{badShare, sameAddress, guarantees, acceptable, rosterHolds, overLimit, placeClear, loosePlaceClear, callClear, customerTidy, customerClear, slotTidy, recordTidy, withinLimits, shareWithinTotal, namesAndIds, holds, rulesHold}
+use Rattle.table.specs.Rules.{badShare, sameAddress, guarantees, acceptable, rosterHolds, overLimit, placeClear, standalonePlaceClear, callClear, customerFreeClear, customerClear, slotFreeClear, recordFreeClear, withinLimits, shareWithinTotal, namesAndIds, holds, rulesHold}
 use Rattle.table.specs.Roster.{rosterNumber, formIn, customersIn, termsIn, spareIn, recordsIn, badForm, recordsAnswer, rosterAnswer, customerIn, customersFrom, freshTable}
 
 -- ---- a table with no calls and no connections
@@ -69,19 +70,19 @@ module _ (address epoch : ℕ) (s : List ℕ) (n : ℕ) where
   no-entries = below-nothing (openAt idle) 64 (λ i h. rw (all-free i))
 
   none-under-calls : (i : ℕ) → heldAt idle i ≡ []
-  unfolding whole
+  unfolding listIf
   none-under-calls i = rw (all-free i)
 
-  none-loose : (k : ℕ) → k < 8 → looseAt idle k ≡ []
-  unfolding whole when below
-  none-loose k h = rw (customer-at k h) (by (ltb k n))
+  none-standalone : (k : ℕ) → k < 8 → standaloneAt idle k ≡ []
+  unfolding listIf when below
+  none-standalone k h = rw (customer-at k h) (by (ltb k n))
     where
-      by : (b : Bool) → whole b (looseIn (cond b (customerIn s k) noCustomer)) ≡ []
+      by : (b : Bool) → listIf b (standaloneIn (cond b (customerIn s k) noCustomer)) ≡ []
       by true = refl
       by false = refl
 
   none-held : held idle ≡ []
-  none-held = rw (below-nothing (heldAt idle) 64 (λ i h. none-under-calls i), below-nothing (looseAt idle) 8 none-loose)
+  none-held = rw (below-nothing (heldAt idle) 64 (λ i h. none-under-calls i), below-nothing (standaloneAt idle) 8 none-standalone)
 
   -- the rules, but for that of the roster itself
 
@@ -95,24 +96,24 @@ module _ (address epoch : ℕ) (s : List ℕ) (n : ℕ) where
       rw (no-entries, roster-is few, sum-ext (λ c. max 0 (c .guarantee)) (λ c. c .guarantee) (recordsIn s n) (λ c. zero-max (c .guarantee)))
       (le-leb (guarantees (recordsIn s n)) 64 g)
 
-  names-whole : holds namesAndIds idle ≡ true
-  names-whole = every-within _ 64 (λ i h. rw (all-free i))
+  valid-ids : holds namesAndIds idle ≡ true
+  valid-ids = every-within _ 64 (λ i h. rw (all-free i))
 
-  slot-tidy : (i : ℕ) → i < 64 → slotTidy idle i ≡ true
-  slot-tidy i h = rw (all-free i, getD-replicate 64 i noCall pastCall h) free-clear
+  slot-free-clear : (i : ℕ) → i < 64 → slotFreeClear idle i ≡ true
+  slot-free-clear i h = rw (all-free i, getD-replicate 64 i noCall pastCall h) free-clear
 
-  record-tidy : (k : ℕ) → k < 8 → recordTidy idle k ≡ true
-  unfolding noCustomer customerTidy customerClear everyBelow loosePlaceClear
-  record-tidy k h = rw (customer-at k h) (by (ltb k n))
+  record-free-clear : (k : ℕ) → k < 8 → recordFreeClear idle k ≡ true
+  unfolding noCustomer customerFreeClear customerClear everyBelow standalonePlaceClear
+  record-free-clear k h = rw (customer-at k h) (by (ltb k n))
     where
-      by : (b : Bool) → cond b (customerTidy (cond b (customerIn s k) noCustomer)) (customerClear (cond b (customerIn s k) noCustomer)) ≡ true
+      by : (b : Bool) → cond b (customerFreeClear (cond b (customerIn s k) noCustomer)) (customerClear (cond b (customerIn s k) noCustomer)) ≡ true
       by true = refl
       by false = refl
 
   idle-holds : n ≤ 8 → guarantees (recordsIn s n) ≤ 64 → rosterHolds idle ≡ true → rulesHold idle ≡ true
   unfolding rulesHold
   idle-holds few g r =
-      rw (r, within-limits, within-total few g, names-whole, every-within (slotTidy idle) 64 slot-tidy, every-within (recordTidy idle) 8 record-tidy, no-entries, none-held)
+      rw (r, within-limits, within-total few g, valid-ids, every-within (slotFreeClear idle) 64 slot-free-clear, every-within (recordFreeClear idle) 8 record-free-clear, no-entries, none-held)
 
 -- the empty table lists no records
 pub empty-holds : rulesHold emptyTable ≡ true
@@ -138,13 +139,6 @@ good-count s h =
     let z = neither (not (eqb (formIn s) 1)) (eqb (customersIn s) 0) (m .0) in
     (omega (arith, eqb-false (customersIn s) 0 (z .1)), ltb-false 8 (customersIn s) (m .1))
 
-swapped : (a b : ℕ) → eqb a b ≡ eqb b a
-swapped a b = go (eqb a b) refl
-  where
-    go : (q : Bool) → eqb a b ≡ q → q ≡ eqb b a
-    go true e = sym (eq-eqb b a (sym (eqb-true a b e)))
-    go false e = sym (ne-eqb b a (λ i. eqb-false a b e (sym i)))
-
 one-more-good : (s : List ℕ) (k : ℕ) → has (badShare total) (recordsIn s k) ≡ false → badShare total (termsIn s k) ≡ false
     → has (badShare total) (recordsIn s (k + 1)) ≡ false
 unfolding when
@@ -155,7 +149,7 @@ one-more-apart : (s : List ℕ) (k : ℕ) → noTwo sameAddress (recordsIn s k) 
 one-more-apart s k h d =
     let r = recordsIn s k in
     let x = termsIn s k in
-    rw (below-more (λ j. termsIn s j ∷ []) k, no-two-append sameAddress r (x ∷ []), meet-element sameAddress r x (isAt (x .address)) (λ c. swapped (c .address) (x .address)), h, d)
+    rw (below-more (λ j. termsIn s j ∷ []) k, no-two-append sameAddress r (x ∷ []), meet-element sameAddress r x (isAt (x .address)) (λ c. eqb-swap (c .address) (x .address)), h, d)
 
 record Good (r : List Terms) : Type 0 where
   pub shares : has (badShare total) r ≡ false

@@ -1,17 +1,18 @@
--- What the table shows: its roster, its open calls and its connections, as lists. All rules and answers are over these three.
+-- What the table shows: its roster, its open calls and its connections, as lists. All rules and answers are over these
+-- three.
 use Prim.Native.Nat.{ℕ}
 use mathlib.Core.List.{List, _++_}
 use lib.Dec.{ltb}
 use lib.ListN.{take, getD}
-use Rattle.lists.specs.Below.{when, whole, below}
+use Rattle.lists.specs.Below.{when, listIf, below}
 use Rattle.table.specs.declared.state.Place.{Place}
 use Rattle.table.specs.declared.state.Call.{Call}
-use Rattle.table.specs.declared.state.LoosePlace.{LoosePlace}
+use Rattle.table.specs.declared.state.StandalonePlace.{StandalonePlace}
 use Rattle.table.specs.declared.state.Customer.{Customer}
 use Rattle.table.specs.declared.state.Table.{Table}
 use Rattle.table.specs.Total.{totalOf}
 use Rattle.table.specs.Word.{isUsed}
-use Rattle.table.specs.Zeros.{noPlace, noLoosePlace, pastCall, pastCustomer}
+use Rattle.table.specs.Zeros.{noPlace, noStandalonePlace, pastCall, pastCustomer}
 
 -- ---- the roster: a customer's address, guarantee and limit
 
@@ -66,7 +67,7 @@ pub record Lsp : Type 0 where
   pub tunnel : ℕ
   pub extended : ℕ
   pub sender : ℕ
-  pub lsp : ℕ
+  pub lspId : ℕ
 
 pub record Held : Type 0 where
   pub call : ℕ
@@ -75,7 +76,7 @@ pub record Held : Type 0 where
 -- under a call, end point and sender are the call's
 abbrev pub underCall : Call → Place → Held
 underCall c p =
-    record { call = c .id .0; lsp = record { endpoint = c .endpoint; tunnel = p .tunnel .0; extended = p .extended; sender = c .sender; lsp = p .lsp .0 } }
+    record { call = c .id .0; lsp = record { endpoint = c .endpoint; tunnel = p .tunnel .0; extended = p .extended; sender = c .sender; lspId = p .lsp .0 } }
 
 abbrev pub placeAt : Call → ℕ → Place
 placeAt c j = getD (c .places) j noPlace
@@ -87,24 +88,24 @@ abbrev pub heldIn : Call → List Held
 heldIn c = below (heldPlace c) 4
 
 abbrev pub heldAt : Table → ℕ → List Held
-heldAt t i = whole (isUsed (t .occupied) i) (heldIn (callAt t i))
+heldAt t i = listIf (isUsed (t .occupied) i) (heldIn (callAt t i))
 
 -- with Call ID 0, the sender is the customer
-abbrev pub withNoCall : Customer → LoosePlace → Held
+abbrev pub withNoCall : Customer → StandalonePlace → Held
 withNoCall c p =
-    record { call = 0; lsp = record { endpoint = p .endpoint; tunnel = p .tunnel .0; extended = p .extended; sender = c .address; lsp = p .lsp .0 } }
+    record { call = 0; lsp = record { endpoint = p .endpoint; tunnel = p .tunnel .0; extended = p .extended; sender = c .address; lspId = p .lsp .0 } }
 
-abbrev pub loosePlaceAt : Customer → ℕ → LoosePlace
-loosePlaceAt c j = getD (c .places) j noLoosePlace
+abbrev pub standalonePlaceAt : Customer → ℕ → StandalonePlace
+standalonePlaceAt c j = getD (c .places) j noStandalonePlace
 
-abbrev pub loosePlace : Customer → ℕ → List Held
-loosePlace c j = when (loosePlaceAt c j .taken) (withNoCall c (loosePlaceAt c j))
+abbrev pub standalonePlace : Customer → ℕ → List Held
+standalonePlace c j = when (standalonePlaceAt c j .taken) (withNoCall c (standalonePlaceAt c j))
 
-abbrev pub looseIn : Customer → List Held
-looseIn c = below (loosePlace c) 4
+abbrev pub standaloneIn : Customer → List Held
+standaloneIn c = below (standalonePlace c) 4
 
-abbrev pub looseAt : Table → ℕ → List Held
-looseAt t k = whole (ltb k (t .listed)) (looseIn (customerAt t k))
+abbrev pub standaloneAt : Table → ℕ → List Held
+standaloneAt t k = listIf (ltb k (t .listed)) (standaloneIn (customerAt t k))
 
 abbrev pub held : Table → List Held
-held t = below (heldAt t) (totalOf t) ++ below (looseAt t) 8
+held t = below (heldAt t) (totalOf t) ++ below (standaloneAt t) 8

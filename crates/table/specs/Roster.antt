@@ -12,7 +12,7 @@ use Rattle.table.specs.declared.answer.RosterAnswer.the-variants.{Accept
 use Rattle.table.specs.declared.state.Customer.{Customer}
 use Rattle.table.specs.declared.state.Table.{Table}
 use Rattle.table.specs.Total.{total}
-use Rattle.table.specs.Zeros.{noLoosePlace, noCall, noCustomer, emptyTable}
+use Rattle.table.specs.Zeros.{noStandalonePlace, noCall, noCustomer, emptyTable}
 use Rattle.table.specs.Lists.{Terms}
 use Rattle.table.specs.Share.{isAt}
 use Rattle.table.specs.Rules.{badShare, guarantees}
@@ -74,7 +74,7 @@ customerIn s k =
       address = termsIn s k .address;
       guarantee = termsIn s k .guarantee;
       limit = termsIn s k .limit;
-      places = replicate 4 noLoosePlace;
+      places = replicate 4 noStandalonePlace;
     }
 
 -- the first n records, and unused ones behind them

@@ -1,8 +1,9 @@
 -- The table rules (01, Table rules), one by one, and the test behind answer 1.
 --
--- Three rules hold by the table's shape. A connection under a call has no sender and end point of its own: it is of the call's pair, and its
--- Call ID is that of an open call, since free slots hold zeros. One of Call ID 0 stands with its customer, so that its sender is listed,
--- since unused roster records hold zeros. A call and a customer have four places each.
+-- Three rules hold by the table's shape. A connection under a call has no sender and end point of its own: it is of the
+-- call's pair, and its Call ID is that of an open call, since free slots hold zeros. One of Call ID 0 stands with its
+-- customer, so that its sender is listed, since unused roster records hold zeros. A call and a customer have four
+-- places each.
 use Prim.Native.Nat.{ℕ, _-_}
 use mathlib.Core.List.{List, [], _∷_}
 use mathlib.Core.Bool.{Bool, true, false, cond, not, _&&_, _||_}
@@ -12,12 +13,12 @@ use Rattle.lists.specs.Count.{has, sumOf, noTwo}
 use Rattle.lists.specs.Below.{everyBelow}
 use Rattle.table.specs.declared.state.Place.{Place}
 use Rattle.table.specs.declared.state.Call.{Call}
-use Rattle.table.specs.declared.state.LoosePlace.{LoosePlace}
+use Rattle.table.specs.declared.state.StandalonePlace.{StandalonePlace}
 use Rattle.table.specs.declared.state.Customer.{Customer}
 use Rattle.table.specs.declared.state.Table.{Table}
 use Rattle.table.specs.Total.{totalOf}
 use Rattle.table.specs.Word.{isUsed}
-use Rattle.table.specs.Lists.{Terms, customerAt, roster, Ids, Entry, callAt, entries, placeAt, Held, loosePlaceAt, held}
+use Rattle.table.specs.Lists.{Terms, customerAt, roster, Ids, Entry, callAt, entries, placeAt, Held, standalonePlaceAt, held}
 use Rattle.table.specs.Share.{listed, callsOf, S}
 
 -- ---- an acceptable roster (01, The roster: 44, 45, 46)
@@ -44,8 +45,8 @@ rosterHolds t =
 
 -- ---- calls
 
-abbrev pub stranger : List Terms → Entry → Bool
-stranger r e = not (listed r (e .ids .sender))
+abbrev pub unlisted : List Terms → Entry → Bool
+unlisted r e = not (listed r (e .ids .sender))
 
 abbrev pub overLimit : List Entry → Terms → Bool
 overLimit l c = ltb (c .limit) (callsOf l (c .address))
@@ -69,8 +70,8 @@ unfoldable pub sameLong : Ids → Ids → Bool
 sameLong c d = samePair c d && sameBytes (c .long) (d .long)
 
 -- a name of 1 to 32 bytes, and a Call ID that is not 0
-unfoldable pub namesWhole : Call → Bool
-namesWhole c = not (eqb (c .id .0) 0) && not (eqb (c .size) 0) && leb (c .size) 32
+unfoldable pub validIds : Call → Bool
+validIds c = not (eqb (c .id .0) 0) && not (eqb (c .size) 0) && leb (c .size) 32
 
 -- ---- connections
 
@@ -80,7 +81,7 @@ sameLsp x y =
     && eqb (x .lsp .sender) (y .lsp .sender)
     && eqb (x .lsp .tunnel) (y .lsp .tunnel)
     && eqb (x .lsp .extended) (y .lsp .extended)
-    && eqb (x .lsp .lsp) (y .lsp .lsp)
+    && eqb (x .lsp .lspId) (y .lsp .lspId)
 
 -- ---- what is free holds zeros
 
@@ -88,16 +89,17 @@ sameLsp x y =
 unfoldable pub placeClear : Place → Bool
 placeClear p = not (p .taken) && eqb (p .tunnel .0) 0 && eqb (p .extended) 0 && eqb (p .lsp .0) 0
 
-unfoldable pub loosePlaceClear : LoosePlace → Bool
-loosePlaceClear p = not (p .taken) && eqb (p .endpoint) 0 && eqb (p .tunnel .0) 0 && eqb (p .extended) 0 && eqb (p .lsp .0) 0
+unfoldable pub standalonePlaceClear : StandalonePlace → Bool
+standalonePlaceClear p = not (p .taken) && eqb (p .endpoint) 0 && eqb (p .tunnel .0) 0 && eqb (p .extended) 0 && eqb (p .lsp .0) 0
 
--- what requests A6 and A7 will use: the mark of a call that the node made, its request's epoch and identifier, the last refresh
+-- what requests A6 and A7 will use: the mark of a call that the node made, its request's epoch and identifier, the last
+-- refresh
 abbrev pub unusedClear : Call → Bool
 unusedClear c = not (c .made) && eqb (c .refreshed) 0 && eqb (c .epoch) 0 && eqb (c .identifier) 0
 
 -- a call's places, those taken excepted; the bytes past its name; what is not in use yet
-unfoldable pub callTidy : Call → Bool
-callTidy c = unusedClear c && zerosAt (c .name) (c .size) (32 - c .size) && everyBelow (λ j. placeAt c j .taken || placeClear (placeAt c j)) 4
+unfoldable pub callFreeClear : Call → Bool
+callFreeClear c = unusedClear c && zerosAt (c .name) (c .size) (32 - c .size) && everyBelow (λ j. placeAt c j .taken || placeClear (placeAt c j)) 4
 
 -- a free slot
 unfoldable pub callClear : Call → Bool
@@ -105,18 +107,18 @@ callClear c =
     unusedClear c && eqb (c .endpoint) 0 && eqb (c .sender) 0 && eqb (c .id .0) 0 && eqb (c .size) 0 && zerosAt (c .name) 0 32
     && everyBelow (λ j. placeClear (placeAt c j)) 4
 
-unfoldable pub customerTidy : Customer → Bool
-customerTidy c = everyBelow (λ j. loosePlaceAt c j .taken || loosePlaceClear (loosePlaceAt c j)) 4
+unfoldable pub customerFreeClear : Customer → Bool
+customerFreeClear c = everyBelow (λ j. standalonePlaceAt c j .taken || standalonePlaceClear (standalonePlaceAt c j)) 4
 
 -- an unused roster record
 unfoldable pub customerClear : Customer → Bool
-customerClear c = eqb (c .address) 0 && eqb (c .guarantee) 0 && eqb (c .limit) 0 && everyBelow (λ j. loosePlaceClear (loosePlaceAt c j)) 4
+customerClear c = eqb (c .address) 0 && eqb (c .guarantee) 0 && eqb (c .limit) 0 && everyBelow (λ j. standalonePlaceClear (standalonePlaceAt c j)) 4
 
-abbrev pub slotTidy : Table → ℕ → Bool
-slotTidy t i = cond (isUsed (t .occupied) i) (callTidy (callAt t i)) (callClear (callAt t i))
+abbrev pub slotFreeClear : Table → ℕ → Bool
+slotFreeClear t i = cond (isUsed (t .occupied) i) (callFreeClear (callAt t i)) (callClear (callAt t i))
 
-abbrev pub recordTidy : Table → ℕ → Bool
-recordTidy t k = cond (ltb k (t .listed)) (customerTidy (customerAt t k)) (customerClear (customerAt t k))
+abbrev pub recordFreeClear : Table → ℕ → Bool
+recordFreeClear t k = cond (ltb k (t .listed)) (customerFreeClear (customerAt t k)) (customerClear (customerAt t k))
 
 -- ---- the rules by name
 
@@ -125,14 +127,14 @@ pub data Rule : Type 0 where
 
 abbrev pub holds : Rule → Table → Bool
 holds rosterAcceptable t = rosterHolds t
-holds sendersListed t = not (has (stranger (roster t)) (entries t))
+holds sendersListed t = not (has (unlisted (roster t)) (entries t))
 holds withinLimits t = not (has (overLimit (entries t)) (roster t))
 holds shareWithinTotal t = leb (S (roster t) (entries t)) (totalOf t)
 holds shortIdsOnce t = noTwo (λ e f. sameShort (e .ids) (f .ids)) (entries t)
 holds longIdsOnce t = noTwo (λ e f. sameLong (e .ids) (f .ids)) (entries t)
-holds namesAndIds t = everyBelow (λ i. not (isUsed (t .occupied) i) || namesWhole (callAt t i)) (totalOf t)
+holds namesAndIds t = everyBelow (λ i. not (isUsed (t .occupied) i) || validIds (callAt t i)) (totalOf t)
 holds connectionsOnce t = noTwo sameLsp (held t)
-holds freeHoldsZeros t = everyBelow (slotTidy t) (totalOf t) && everyBelow (recordTidy t) 8
+holds freeHoldsZeros t = everyBelow (slotFreeClear t) (totalOf t) && everyBelow (recordFreeClear t) 8
 
 -- answer 1 is given unless every rule holds
 unfoldable pub rulesHold : Table → Bool

@@ -1,4 +1,5 @@
--- How many calls the table holds (01, The roster): the one place that says so.
+-- How many calls the table holds (01, The roster): the one definition that says so. The code's constants are SLOTS and
+-- TOTAL of table/src/state.rt.
 use Prim.Native.Nat.{ℕ}
 use Rattle.table.specs.declared.state.Table.{Table}
 

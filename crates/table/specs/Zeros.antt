@@ -1,10 +1,11 @@
--- What is free holds zeros (01, Share): free places, free slots, unused roster records; and the empty table of a refused roster.
+-- What is free holds zeros (01, Share): free places, free slots, unused roster records; and the empty table of a
+-- refused roster.
 use mathlib.Core.List.{[]}
 use mathlib.Core.Bool.{false}
 use lib.ListN.{replicate}
 use Rattle.table.specs.declared.state.Place.{Place}
 use Rattle.table.specs.declared.state.Call.{Call}
-use Rattle.table.specs.declared.state.LoosePlace.{LoosePlace}
+use Rattle.table.specs.declared.state.StandalonePlace.{StandalonePlace}
 use Rattle.table.specs.declared.state.Customer.{Customer}
 use Rattle.table.specs.declared.state.Table.{Table}
 use Rattle.table.specs.Total.{total}
@@ -12,8 +13,8 @@ use Rattle.table.specs.Total.{total}
 abbrev pub noPlace : Place
 noPlace = record { taken = false; tunnel = record { 0 = 0 }; extended = 0; lsp = record { 0 = 0 } }
 
-abbrev pub noLoosePlace : LoosePlace
-noLoosePlace = record { taken = false; endpoint = 0; tunnel = record { 0 = 0 }; extended = 0; lsp = record { 0 = 0 } }
+abbrev pub noStandalonePlace : StandalonePlace
+noStandalonePlace = record { taken = false; endpoint = 0; tunnel = record { 0 = 0 }; extended = 0; lsp = record { 0 = 0 } }
 
 unfoldable pub noCall : Call
 noCall = record {
@@ -30,7 +31,7 @@ noCall = record {
 }
 
 unfoldable pub noCustomer : Customer
-noCustomer = record { address = 0; guarantee = 0; limit = 0; places = replicate 4 noLoosePlace }
+noCustomer = record { address = 0; guarantee = 0; limit = 0; places = replicate 4 noStandalonePlace }
 
 -- no customers, all zeros, next own identifier 1
 unfoldable pub emptyTable : Table

@@ -1,10 +1,16 @@
 // The table's layout.
 ghost use mathlib.Core.Path.{_≡_};
 ghost use Prim.Native.Nat.{min};
-ghost use Rattle.table.specs.Zeros.{noPlace, noCall, noLoosePlace, noCustomer, emptyTable};
+ghost use Rattle.table.specs.Zeros.{noPlace, noCall, noStandalonePlace, noCustomer, emptyTable};
 use objects::fields::CallId;
 use objects::fields::LspId;
 use objects::fields::TunnelId;
+
+// How many slots for calls the table has.
+pub const SLOTS: usize = 64;
+
+// How many calls all customers may have together (01, The roster and Share): as many as there are slots.
+pub const TOTAL: usize = SLOTS;
 
 // A connection under a call: end point and sender are the call's. A place has a mark of its own, since
 // a connection can be all zeros.
@@ -16,8 +22,8 @@ pub struct Place {
     pub lsp: LspId,
 }
 
-// A call, with its long Call ID in the first `size` bytes of `name`. Whether the node made it, its last refresh and the epoch and
-// identifier of its request are for requests A6 and A7: a table rule holds them at zero until then.
+// A call, with its long Call ID in the first `size` bytes of `name`. Whether the node made it, its last refresh and the
+// epoch and identifier of its request are for requests A6 and A7: a table rule holds them at zero until then.
 #[repr(C)]
 pub struct Call {
     pub endpoint: u32,
@@ -34,7 +40,7 @@ pub struct Call {
 
 // A connection of Call ID 0: its sender is the customer.
 #[repr(C)]
-pub struct LoosePlace {
+pub struct StandalonePlace {
     pub taken: bool,
     pub endpoint: u32,
     pub tunnel: TunnelId,
@@ -47,7 +53,7 @@ pub struct Customer {
     pub address: u32,
     pub guarantee: u8,
     pub limit: u8,
-    pub places: [LoosePlace; 4],
+    pub places: [StandalonePlace; 4],
 }
 
 // The roster as read (own address, own epoch, the first `listed` customers), the next own identifier, and
@@ -60,7 +66,7 @@ pub struct Table {
     pub listed: u8,
     pub occupied: u64,
     pub customers: [Customer; 8],
-    pub calls: [Call; 64],
+    pub calls: [Call; SLOTS],
 }
 
 pub fn no_place() -> Place
@@ -92,10 +98,10 @@ pub fn no_call() -> Call
     }
 }
 
-pub fn no_loose_place() -> LoosePlace
-    ensures { λ r. ⌜ r ≡ noLoosePlace ⌝ }
+pub fn no_standalone_place() -> StandalonePlace
+    ensures { λ r. ⌜ r ≡ noStandalonePlace ⌝ }
 {
-    LoosePlace {
+    StandalonePlace {
         taken: false,
         endpoint: 0,
         tunnel: TunnelId(0),
@@ -107,7 +113,7 @@ pub fn no_loose_place() -> LoosePlace
 pub fn no_customer() -> Customer
     ensures { λ r. ⌜ r ≡ noCustomer ⌝ }
 {
-    let places = [no_loose_place(); 4];
+    let places = [no_standalone_place(); 4];
     Customer {
         address: 0,
         guarantee: 0,
@@ -121,7 +127,7 @@ pub fn empty_table() -> Table
     ensures { λ r. ⌜ r ≡ emptyTable ⌝ }
 {
     let customers = [no_customer(); 8];
-    let calls = [no_call(); 64];
+    let calls = [no_call(); SLOTS];
     Table {
         address: 0,
         epoch: 0,

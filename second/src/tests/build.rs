@@ -3,10 +3,10 @@
 use crate::table::Table;
 use crate::{handle, read_roster, Node};
 
-/// The customers of "Two customers, one table", and a stranger.
+/// The customers of "Two customers, one table", and an address that is not listed.
 pub const X: u32 = 0x0a00_0001;
 pub const Y: u32 = 0x0b00_0001;
-pub const STRANGER: u32 = 0x0c00_0001;
+pub const UNLISTED: u32 = 0x0c00_0001;
 pub const END: u32 = 0x0a00_0002;
 
 pub const PATH: u8 = 1;
@@ -22,11 +22,7 @@ pub const OLD: u8 = 0x5a;
 
 /// Bytes from hex, blanks let go by.
 pub fn hex(text: &str) -> Vec<u8> {
-    let digits: Vec<u8> = text
-        .chars()
-        .filter_map(|c| c.to_digit(16))
-        .map(|d| d as u8)
-        .collect();
+    let digits: Vec<u8> = text.chars().filter_map(|c| c.to_digit(16)).map(|d| d as u8).collect();
     digits.chunks(2).map(|two| two[0] << 4 | two[1]).collect()
 }
 
@@ -107,10 +103,7 @@ pub fn path(sender: u32, call: u16, lsp: u16) -> Vec<u8> {
 }
 
 pub fn tear(sender: u32, call: u16, lsp: u16) -> Vec<u8> {
-    message(
-        PATH_TEAR,
-        &[session(END, call, 1, X), template(sender, lsp)],
-    )
+    message(PATH_TEAR, &[session(END, call, 1, X), template(sender, lsp)])
 }
 
 /// A roster: own address 10.0.0.2, epoch 7, records of address, guarantee and limit.
@@ -125,28 +118,28 @@ pub fn roster(records: &[(u32, u16, u16)]) -> Vec<u8> {
 }
 
 /// A node under test: the table from message to message, and beside it a `Node` that stays.
-pub struct Desk {
+pub struct TestNode {
     pub table: Table,
     pub node: Node,
     pub reply: Vec<u8>,
 }
 
-impl Desk {
-    pub fn new(records: &[(u32, u16, u16)]) -> Desk {
+impl TestNode {
+    pub fn new(records: &[(u32, u16, u16)]) -> TestNode {
         let (answer, table) = read_roster(&roster(records));
         assert_eq!(answer, 0);
-        Desk::with(table)
+        TestNode::with(table)
     }
 
     /// X with guarantee 1 and limit 2, Y with 62 and 64.
-    pub fn two() -> Desk {
-        Desk::new(&[(X, 1, 2), (Y, 62, 64)])
+    pub fn two() -> TestNode {
+        TestNode::new(&[(X, 1, 2), (Y, 62, 64)])
     }
 
-    pub fn with(table: Table) -> Desk {
+    pub fn with(table: Table) -> TestNode {
         let node = Node::from_table(&table).expect("the rules hold");
         assert_eq!(node.to_table(), table);
-        Desk {
+        TestNode {
             table,
             node,
             reply: Vec::new(),

@@ -4,128 +4,128 @@ use super::build::*;
 
 #[test]
 fn x_up_to_its_limit() {
-    let mut desk = Desk::two();
-    assert_eq!(desk.s(), 63);
-    assert_eq!(desk.ask(&open(X, 1, b"one")), 20);
-    assert_eq!(desk.s(), 63);
-    assert_eq!(desk.ask(&open(X, 1, b"one")), 21);
-    assert_eq!(desk.ask(&open(X, 2, b"two")), 20);
-    assert_eq!(desk.s(), 64);
-    assert_eq!(desk.ask(&open(X, 3, b"three")), 34);
+    let mut tested = TestNode::two();
+    assert_eq!(tested.s(), 63);
+    assert_eq!(tested.ask(&open(X, 1, b"one")), 20);
+    assert_eq!(tested.s(), 63);
+    assert_eq!(tested.ask(&open(X, 1, b"one")), 21);
+    assert_eq!(tested.ask(&open(X, 2, b"two")), 20);
+    assert_eq!(tested.s(), 64);
+    assert_eq!(tested.ask(&open(X, 3, b"three")), 34);
 }
 
 #[test]
 fn y_waits_for_x() {
-    let mut desk = Desk::two();
-    desk.open_many(X, 2);
-    desk.open_many(Y, 62);
-    assert_eq!(desk.s(), 64);
-    assert_eq!(desk.ask(&open(Y, 63, b"more")), 34);
-    assert_eq!(desk.ask(&close(X, 1, &[0, 1])), 22);
-    assert_eq!(desk.ask(&open(Y, 63, b"more")), 20);
+    let mut tested = TestNode::two();
+    tested.open_many(X, 2);
+    tested.open_many(Y, 62);
+    assert_eq!(tested.s(), 64);
+    assert_eq!(tested.ask(&open(Y, 63, b"more")), 34);
+    assert_eq!(tested.ask(&close(X, 1, &[0, 1])), 22);
+    assert_eq!(tested.ask(&open(Y, 63, b"more")), 20);
     // X is at its guarantee, S is 64: no second call now.
-    assert_eq!(desk.s(), 64);
-    assert_eq!(desk.ask(&open(X, 3, b"back")), 34);
+    assert_eq!(tested.s(), 64);
+    assert_eq!(tested.ask(&open(X, 3, b"back")), 34);
 }
 
 #[test]
 fn a_guarantee_stays_open_to_its_customer() {
-    let mut desk = Desk::two();
-    desk.open_many(Y, 63);
-    assert_eq!(desk.s(), 64);
-    assert_eq!(desk.ask(&open(Y, 64, b"y")), 34);
-    assert_eq!(desk.ask(&open(X, 1, b"x")), 20);
-    assert_eq!(desk.table.occupied, u64::MAX);
-    assert_eq!(desk.ask(&open(X, 2, b"x2")), 34);
+    let mut tested = TestNode::two();
+    tested.open_many(Y, 63);
+    assert_eq!(tested.s(), 64);
+    assert_eq!(tested.ask(&open(Y, 64, b"y")), 34);
+    assert_eq!(tested.ask(&open(X, 1, b"x")), 20);
+    assert_eq!(tested.table.occupied, u64::MAX);
+    assert_eq!(tested.ask(&open(X, 2, b"x2")), 34);
     // 21, 31 and 30 come before 34, at the limit too.
-    assert_eq!(desk.ask(&open(X, 1, b"x")), 21);
-    assert_eq!(desk.ask(&open(X, 2, b"x")), 31);
-    assert_eq!(desk.ask(&open(X, 1, b"y")), 30);
+    assert_eq!(tested.ask(&open(X, 1, b"x")), 21);
+    assert_eq!(tested.ask(&open(X, 2, b"x")), 31);
+    assert_eq!(tested.ask(&open(X, 1, b"y")), 30);
 }
 
 #[test]
 fn close_under_a_connection() {
-    let mut desk = Desk::two();
-    assert_eq!(desk.ask(&open(X, 5, b"ab")), 20);
-    assert_eq!(desk.ask(&path(X, 5, 1)), 23);
-    assert_eq!(desk.ask(&close(X, 5, b"ab")), 32);
-    assert_eq!(desk.ask(&tear(X, 9, 1)), 25);
-    assert_eq!(desk.ask(&close(X, 5, b"ab")), 22);
-    assert_eq!(desk.ask(&close(X, 5, b"ab")), 33);
+    let mut tested = TestNode::two();
+    assert_eq!(tested.ask(&open(X, 5, b"ab")), 20);
+    assert_eq!(tested.ask(&path(X, 5, 1)), 23);
+    assert_eq!(tested.ask(&close(X, 5, b"ab")), 32);
+    assert_eq!(tested.ask(&tear(X, 9, 1)), 25);
+    assert_eq!(tested.ask(&close(X, 5, b"ab")), 22);
+    assert_eq!(tested.ask(&close(X, 5, b"ab")), 33);
 }
 
 #[test]
 fn ids_of_two_calls() {
-    let mut desk = Desk::two();
-    assert_eq!(desk.ask(&open(X, 1, b"one")), 20);
-    assert_eq!(desk.ask(&open(X, 2, b"two")), 20);
-    assert_eq!(desk.ask(&open(X, 2, b"one")), 31);
-    assert_eq!(desk.ask(&open(X, 3, b"one")), 31);
-    assert_eq!(desk.ask(&open(X, 1, b"three")), 30);
-    assert_eq!(desk.ask(&close(X, 2, b"one")), 33);
-    assert_eq!(desk.ask(&close(X, 1, b"three")), 33);
-    assert_eq!(desk.ask(&close(X, 3, b"one")), 33);
+    let mut tested = TestNode::two();
+    assert_eq!(tested.ask(&open(X, 1, b"one")), 20);
+    assert_eq!(tested.ask(&open(X, 2, b"two")), 20);
+    assert_eq!(tested.ask(&open(X, 2, b"one")), 31);
+    assert_eq!(tested.ask(&open(X, 3, b"one")), 31);
+    assert_eq!(tested.ask(&open(X, 1, b"three")), 30);
+    assert_eq!(tested.ask(&close(X, 2, b"one")), 33);
+    assert_eq!(tested.ask(&close(X, 1, b"three")), 33);
+    assert_eq!(tested.ask(&close(X, 3, b"one")), 33);
     // The IDs belong to the pair, not to the node.
-    assert_eq!(desk.ask(&open(Y, 1, b"one")), 20);
-    assert_eq!(desk.ask(&close(Y, 2, b"two")), 33);
+    assert_eq!(tested.ask(&open(Y, 1, b"one")), 20);
+    assert_eq!(tested.ask(&close(Y, 2, b"two")), 33);
 }
 
 #[test]
 fn another_end_point_is_another_pair() {
-    let mut desk = Desk::two();
+    let mut tested = TestNode::two();
     let at = |endpoint, status| {
         let mut objects = six(X, 1, b"one", status);
         objects[0] = session(endpoint, 1, 1, X);
         message(NOTIFY, &objects)
     };
-    assert_eq!(desk.ask(&at(END, SETUP)), 20);
-    assert_eq!(desk.ask(&at(END + 1, CLOSE)), 33);
-    assert_eq!(desk.ask(&at(END + 1, SETUP)), 20);
-    assert_eq!(desk.ask(&at(END, CLOSE)), 22);
-    assert_eq!(desk.ask(&at(END + 1, SETUP)), 21);
+    assert_eq!(tested.ask(&at(END, SETUP)), 20);
+    assert_eq!(tested.ask(&at(END + 1, CLOSE)), 33);
+    assert_eq!(tested.ask(&at(END + 1, SETUP)), 20);
+    assert_eq!(tested.ask(&at(END, CLOSE)), 22);
+    assert_eq!(tested.ask(&at(END + 1, SETUP)), 21);
 }
 
 #[test]
 fn tunnel_and_lsp_ids_are_no_part_of_a_call() {
-    let mut desk = Desk::two();
-    assert_eq!(desk.ask(&open(X, 1, b"one")), 20);
+    let mut tested = TestNode::two();
+    assert_eq!(tested.ask(&open(X, 1, b"one")), 20);
     let mut objects = six(X, 1, b"one", CLOSE);
     objects[0] = session(END, 1, 77, 78);
     objects[2] = template(X, 79);
-    assert_eq!(desk.ask(&message(NOTIFY, &objects)), 22);
+    assert_eq!(tested.ask(&message(NOTIFY, &objects)), 22);
 }
 
 #[test]
 fn a_zero_byte_makes_another_name() {
-    let mut desk = Desk::two();
-    assert_eq!(desk.ask(&open(X, 1, b"a")), 20);
-    assert_eq!(desk.ask(&open(X, 1, b"a\0")), 30);
-    assert_eq!(desk.ask(&open(X, 2, b"a\0")), 20);
-    assert_eq!(desk.ask(&close(X, 1, b"a\0")), 33);
-    assert_eq!(desk.ask(&close(X, 2, b"a\0")), 22);
-    assert_eq!(desk.ask(&open(X, 1, b"a")), 21);
+    let mut tested = TestNode::two();
+    assert_eq!(tested.ask(&open(X, 1, b"a")), 20);
+    assert_eq!(tested.ask(&open(X, 1, b"a\0")), 30);
+    assert_eq!(tested.ask(&open(X, 2, b"a\0")), 20);
+    assert_eq!(tested.ask(&close(X, 1, b"a\0")), 33);
+    assert_eq!(tested.ask(&close(X, 2, b"a\0")), 22);
+    assert_eq!(tested.ask(&open(X, 1, b"a")), 21);
 }
 
 #[test]
 fn the_lowest_free_slot() {
-    let mut desk = Desk::new(&[(X, 0, 64)]);
-    desk.open_many(X, 64);
-    assert_eq!(desk.ask(&open(X, 65, b"full")), 34);
+    let mut tested = TestNode::new(&[(X, 0, 64)]);
+    tested.open_many(X, 64);
+    assert_eq!(tested.ask(&open(X, 65, b"full")), 34);
     for id in [41u16, 8, 20] {
-        assert_eq!(desk.ask(&close(X, id, &id.to_be_bytes())), 22);
+        assert_eq!(tested.ask(&close(X, id, &id.to_be_bytes())), 22);
     }
     for (slot, id) in [(7, 101), (19, 102), (40, 103)] {
-        assert_eq!(desk.ask(&open(X, id, &id.to_be_bytes())), 20);
-        assert_eq!(desk.table.calls[slot].id, id);
+        assert_eq!(tested.ask(&open(X, id, &id.to_be_bytes())), 20);
+        assert_eq!(tested.table.calls[slot].id, id);
     }
-    assert_eq!(desk.table.occupied, u64::MAX);
+    assert_eq!(tested.table.occupied, u64::MAX);
 }
 
 #[test]
 fn the_slot_holds_the_call() {
-    let mut desk = Desk::two();
-    let fresh = desk.table;
-    assert_eq!(desk.ask(&open(X, 5, b"ab")), 20);
+    let mut tested = TestNode::two();
+    let fresh = tested.table;
+    assert_eq!(tested.ask(&open(X, 5, b"ab")), 20);
     let mut expected = fresh;
     expected.next = 2;
     expected.occupied = 1;
@@ -134,9 +134,9 @@ fn the_slot_holds_the_call() {
     expected.calls[0].id = 5;
     expected.calls[0].size = 2;
     expected.calls[0].name[..2].copy_from_slice(b"ab");
-    assert_eq!(desk.table, expected);
-    assert_eq!(desk.ask(&close(X, 5, b"ab")), 22);
+    assert_eq!(tested.table, expected);
+    assert_eq!(tested.ask(&close(X, 5, b"ab")), 22);
     expected = fresh;
     expected.next = 3;
-    assert_eq!(desk.table, expected);
+    assert_eq!(tested.table, expected);
 }

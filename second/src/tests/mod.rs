@@ -2,9 +2,9 @@
 
 mod build;
 mod calls;
+mod checkpoint_bytes;
+mod checkpoints;
 mod connections;
-mod copies;
-mod copy_bytes;
 mod form;
 mod objects;
 mod replies;
@@ -12,5 +12,5 @@ mod rosters;
 mod rules;
 mod salvage_alone;
 mod salvage_beside;
-mod salvage_twins;
+mod salvage_duplicates;
 mod streams;

@@ -71,7 +71,7 @@ fn guarantees_come_last() {
     assert_eq!(answer(&[(X, 62, 64), (Y, 2, 64)]), 0);
     assert_eq!(answer(&[(X, 62, 64), (Y, 3, 64)]), 46);
     assert_eq!(answer(&[(X, 64, 64), (Y, 64, 64), (X, 1, 1)]), 45);
-    assert_eq!(answer(&[(X, 64, 64), (Y, 64, 64), (STRANGER, 1, 0)]), 44);
+    assert_eq!(answer(&[(X, 64, 64), (Y, 64, 64), (UNLISTED, 1, 0)]), 44);
 }
 
 #[test]
@@ -87,8 +87,5 @@ fn eight_customers_are_the_most() {
 #[test]
 fn the_epoch_has_24_bits() {
     let (answer, table) = read_roster(&hex("11ffffffffffffff 0a0000010208"));
-    assert_eq!(
-        (answer, table.address, table.epoch),
-        (0, u32::MAX, 0x00ff_ffff)
-    );
+    assert_eq!((answer, table.address, table.epoch), (0, u32::MAX, 0x00ff_ffff));
 }

@@ -1,18 +1,18 @@
 //! 01, "Table rules".
 
 use super::build::*;
-use crate::table::{Call, Customer, LoosePlace, Place, Table};
+use crate::table::{Call, Customer, Place, StandalonePlace, Table};
 use crate::{handle, Node};
 
 /// Two calls of X, one of Y; connections under X's first and with both customers.
 fn sound() -> Table {
-    let mut desk = Desk::two();
-    desk.open_many(X, 2);
-    desk.open_many(Y, 1);
+    let mut tested = TestNode::two();
+    tested.open_many(X, 2);
+    tested.open_many(Y, 1);
     for message in [path(X, 1, 1), path(X, 1, 2), path(X, 0, 3), path(Y, 0, 4)] {
-        assert_eq!(desk.ask(&message), 23);
+        assert_eq!(tested.ask(&message), 23);
     }
-    desk.table
+    tested.table
 }
 
 /// Whether the sound table breaks a rule once changed.
@@ -33,7 +33,7 @@ fn the_layout_is_that_of_the_header() {
     use std::mem::size_of;
     assert_eq!(size_of::<Place>(), 12);
     assert_eq!(size_of::<Call>(), 104);
-    assert_eq!(size_of::<LoosePlace>(), 20);
+    assert_eq!(size_of::<StandalonePlace>(), 20);
     assert_eq!(size_of::<Customer>(), 88);
     assert_eq!(size_of::<Table>(), 7384);
 }
@@ -119,7 +119,7 @@ fn calls_within_limit_and_share() {
     assert!(!breaks(|t| t.customers[0].guarantee = 2));
     // Calls 2 and guarantee 63 make S 65, though the guarantees are 64.
     assert!(breaks(|t| t.customers[1].guarantee = 63));
-    assert!(breaks(|t| t.calls[0].sender = STRANGER));
+    assert!(breaks(|t| t.calls[0].sender = UNLISTED));
 }
 
 #[test]
@@ -204,9 +204,7 @@ fn no_connection_twice() {
     // In one call, in two calls of a pair, with one customer, under a call and Call ID 0.
     assert!(breaks(|t| t.calls[0].places[1].lsp = 1));
     assert!(breaks(|t| t.calls[1].places[2] = t.calls[0].places[0]));
-    assert!(breaks(
-        |t| t.customers[0].places[1] = t.customers[0].places[0]
-    ));
+    assert!(breaks(|t| t.customers[0].places[1] = t.customers[0].places[0]));
     assert!(breaks(|t| t.customers[0].places[0].lsp = 1));
     // Another end point or sender makes another connection.
     assert!(!breaks(|t| {

@@ -1,14 +1,14 @@
 //! A13, step 1: calls that break a table rule alone, or name a slot outside the total.
 
 use super::build::*;
-use super::copy_bytes::*;
+use super::checkpoint_bytes::*;
 
 /// Whether a record of X, `ab`, is dropped once its bytes are changed; a good call of Y stands before it.
 fn drops(change: impl FnOnce(&mut Vec<u8>)) -> bool {
     let mut record = call(7, 5, X, b"ab");
     change(&mut record);
-    let copy = copy(&[call(0, 1, Y, b"y"), record], &[under(1, Y, 1)]);
-    let read = salvage(ROOMY, &copy);
+    let checkpoint = checkpoint(&[call(0, 1, Y, b"y"), record], &[under(1, Y, 1)]);
+    let read = salvage(ROOMY, &checkpoint);
     assert_eq!(read.dropped.1, 0);
     assert_eq!(read.lsps(0), [1]);
     assert_eq!(read.calls.len() + read.dropped.0, 2);
@@ -18,13 +18,9 @@ fn drops(change: impl FnOnce(&mut Vec<u8>)) -> bool {
 #[test]
 fn sender_and_short_id() {
     assert!(!drops(|_| ()));
-    assert!(drops(
-        |record| record[7..11].copy_from_slice(&STRANGER.to_be_bytes())
-    ));
+    assert!(drops(|record| record[7..11].copy_from_slice(&UNLISTED.to_be_bytes())));
     assert!(drops(|record| record[10] ^= 2));
-    assert!(!drops(
-        |record| record[7..11].copy_from_slice(&Y.to_be_bytes())
-    ));
+    assert!(!drops(|record| record[7..11].copy_from_slice(&Y.to_be_bytes())));
     assert!(drops(|record| record[1..3].fill(0)));
     assert!(!drops(|record| record[1..3].fill(0xff)));
     assert!(!drops(|record| record[3..7].fill(0)));
@@ -89,7 +85,7 @@ fn what_step_1_dropped_takes_nothing() {
     bad[11] |= 0x80;
     let calls = [bad, call(0, 6, X, b"ab"), call(1, 5, X, b"c")];
     let connections = [under(5, X, 1), under(5, X, 2), under(6, X, 3)];
-    let read = salvage(&[(X, 1, 2), (Y, 62, 64)], &copy(&calls, &connections));
+    let read = salvage(&[(X, 1, 2), (Y, 62, 64)], &checkpoint(&calls, &connections));
     assert_eq!(read.calls, [(0, 6), (1, 5)]);
     assert_eq!(read.dropped, (1, 0));
     assert_eq!((read.lsps(0), read.lsps(1)), (vec![3], vec![1, 2]));

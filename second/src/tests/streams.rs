@@ -36,10 +36,7 @@ impl Ledger {
 
     /// What a setup without a fault of form is answered.
     fn expects(&self, customer: usize, entry: &Entry) -> u8 {
-        let mut pair = self
-            .entries
-            .iter()
-            .filter(|e| (e.0, e.1) == (entry.0, entry.1));
+        let mut pair = self.entries.iter().filter(|e| (e.0, e.1) == (entry.0, entry.1));
         let s: usize = (0..2).map(|i| self.count(i).max(SHARES[i].0)).sum();
         let (count, (guarantee, limit)) = (self.count(customer), SHARES[customer]);
         if self.entries.contains(entry) {
@@ -68,15 +65,15 @@ impl Ledger {
 }
 
 /// One random message to the node and the ledger.
-fn step(dice: &mut Dice, desk: &mut Desk, ledger: &mut Ledger) -> u8 {
+fn step(dice: &mut Dice, tested: &mut TestNode, ledger: &mut Ledger) -> u8 {
     let customer = usize::from(dice.below(3) > 0);
     let sender = CUSTOMERS[customer];
     let id = 1 + dice.below(70) as u16;
     let lsp = dice.below(6) as u16;
     match dice.below(10) {
-        0 => return desk.ask(&path(sender, 0, lsp)),
-        1..=2 => return desk.ask(&path(sender, id % 8, lsp)),
-        3 => return desk.ask(&tear(sender, 0, lsp)),
+        0 => return tested.ask(&path(sender, 0, lsp)),
+        1..=2 => return tested.ask(&path(sender, id % 8, lsp)),
+        3 => return tested.ask(&tear(sender, 0, lsp)),
         _ => {}
     }
     // Mostly the name that goes with the ID.
@@ -86,10 +83,10 @@ fn step(dice: &mut Dice, desk: &mut Desk, ledger: &mut Ledger) -> u8 {
     };
     let entry = (END, sender, id, name);
     let answer = if dice.below(4) == 0 {
-        desk.ask(&close(sender, id, &entry.3))
+        tested.ask(&close(sender, id, &entry.3))
     } else {
         let expected = ledger.expects(customer, &entry);
-        let answer = desk.ask(&open(sender, id, &entry.3));
+        let answer = tested.ask(&open(sender, id, &entry.3));
         assert_eq!(answer, expected);
         answer
     };
@@ -102,17 +99,17 @@ fn the_ledger_agrees() {
     let mut seen = [0usize; 64];
     for seed in 1..=6u64 {
         let mut dice = Dice(seed.wrapping_mul(0x9e37_79b9_7f4a_7c15));
-        let mut desk = Desk::new(&[(X, 1, 8), (Y, 58, 60)]);
+        let mut tested = TestNode::new(&[(X, 1, 8), (Y, 58, 60)]);
         let mut ledger = Ledger::default();
         for _ in 0..1500 {
-            let answer = step(&mut dice, &mut desk, &mut ledger);
+            let answer = step(&mut dice, &mut tested, &mut ledger);
             seen[usize::from(answer)] += 1;
             for customer in 0..2 {
                 let count = ledger.count(customer);
                 assert_eq!(ledger.opened[customer], count + ledger.closed[customer]);
             }
         }
-        let held = desk.table.calls.iter().filter(|call| call.id != 0).count();
+        let held = tested.table.calls.iter().filter(|call| call.id != 0).count();
         assert_eq!(held, ledger.entries.len());
     }
     for answer in [14, 15, 20, 21, 22, 23, 24, 25, 30, 31, 32, 33, 34, 35, 37] {
@@ -123,13 +120,8 @@ fn the_ledger_agrees() {
 #[test]
 fn any_bytes_get_an_answer() {
     let mut dice = Dice(0x1234_5678_9abc_def1);
-    let mut desk = Desk::two();
-    let sound = [
-        open(X, 5, b"ab"),
-        close(X, 5, b"ab"),
-        path(X, 5, 1),
-        tear(X, 0, 1),
-    ];
+    let mut tested = TestNode::two();
+    let sound = [open(X, 5, b"ab"), close(X, 5, b"ab"), path(X, 5, 1), tear(X, 0, 1)];
     for _ in 0..8000 {
         let mut message = sound[dice.below(4) as usize].clone();
         for _ in 0..dice.below(4) {
@@ -143,6 +135,6 @@ fn any_bytes_get_an_answer() {
         if dice.below(8) == 0 {
             message.truncate(dice.below(message.len() as u64) as usize);
         }
-        desk.ask(&message);
+        tested.ask(&message);
     }
 }

@@ -4,10 +4,6 @@ use mathlib.Core.Path.{ap, _∙_}
 use borrow.Author.Needs.{needs}
 use Rattle.chaffmoor.proofs.chaffmoor_handle.Statement.{statement}
 use Rattle.chaffmoor.proofs.chaffmoor_handle.Tie as tie
-use Rattle.chaffmoor.proofs.chaffmoor_handle.Reads as reads
-use Rattle.chaffmoor.proofs.chaffmoor_handle.Lts as lts
-use Rattle.answers.proofs.answer.number.Reads as number-reads
-use Rattle.node.proofs.handle.handle.Reads as handle-reads
 
 handle-requires : tie.Need-handle-requires
 handle-requires c κs = search needs

@@ -4,10 +4,6 @@ use mathlib.Core.Path.{ap, _∙_}
 use borrow.Author.Needs.{needs}
 use Rattle.chaffmoor.proofs.chaffmoor_read_roster.Statement.{statement}
 use Rattle.chaffmoor.proofs.chaffmoor_read_roster.Tie as tie
-use Rattle.chaffmoor.proofs.chaffmoor_read_roster.Reads as reads
-use Rattle.chaffmoor.proofs.chaffmoor_read_roster.Lts as lts
-use Rattle.rosters.proofs.read_roster.Reads as read-roster-reads
-use Rattle.table.proofs.answer.roster_number.Reads as roster-number-reads
 
 read-roster-requires : tie.Need-read-roster-requires
 read-roster-requires c κs = search needs

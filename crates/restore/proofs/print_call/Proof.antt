@@ -43,11 +43,11 @@ name-size-requires c κs = search needs
 loop-holds : tie.Need-loop-holds Inv-loop μ-loop
 loop-holds c = search needs
 
-element-copy-out-widened : tie.Need-element-copy-out-widened Inv-loop μ-loop
-element-copy-out-widened c = search needs
+element-copy-out-to-usize : tie.Need-element-copy-out-to-usize Inv-loop μ-loop
+element-copy-out-to-usize c = search needs
 
-widened-requires : tie.Need-widened-requires Inv-loop μ-loop
-widened-requires c κs = search needs
+to-usize-requires : tie.Need-to-usize-requires Inv-loop μ-loop
+to-usize-requires c κs = search needs
 
 print-hex-requires : tie.Need-print-hex-requires Inv-loop μ-loop
 print-hex-requires c κs = search needs
@@ -87,8 +87,8 @@ print-call-spec =
     print-text-requires-2
     name-size-requires
     loop-holds
-    element-copy-out-widened
-    widened-requires
+    element-copy-out-to-usize
+    to-usize-requires
     print-hex-requires
     add-k
     loop-less

@@ -1,20 +1,21 @@
 -- `print_table` is safe and ends: the slots, and the customers.
 use Prim.Native.Nat.{_≤_, _-_}
 use borrow.Author.Needs.{needs}
+use Rattle.table.specs.Total.{total}
 use Rattle.restore.proofs.print_table.Statement.{statement}
 use Rattle.restore.proofs.print_table.Tie as tie
 
 abbrev Inv-loop : tie.InvT-loop
-Inv-loop t i₀ i = i ≤ 64
+Inv-loop t i₀ i = i ≤ total
 
 abbrev μ-loop : tie.MeasureT-loop
-μ-loop t i₀ i = 64 - i
+μ-loop t i₀ i = total - i
 
 abbrev Inv-loop2 : tie.InvT-loop2
-Inv-loop2 t i m₀ m = m ≤ 64
+Inv-loop2 t i m₀ m = m ≤ total
 
 abbrev μ-loop2 : tie.MeasureT-loop2
-μ-loop2 t i m₀ m = 64 - m
+μ-loop2 t i m₀ m = total - m
 
 abbrev Inv-loop3 : tie.InvT-loop3
 Inv-loop3 t i m k₀ k = k ≤ 8
@@ -32,8 +33,9 @@ element-copy-out-c :
     tie.Need-element-copy-out-c Inv-loop μ-loop Inv-loop2 μ-loop2 Inv-loop3 μ-loop3
 element-copy-out-c c = search needs
 
-shr-if1 : tie.Need-shr-if1 Inv-loop μ-loop Inv-loop2 μ-loop2 Inv-loop3 μ-loop3
-shr-if1 c = search needs
+is-used-requires :
+    tie.Need-is-used-requires Inv-loop μ-loop Inv-loop2 μ-loop2 Inv-loop3 μ-loop3
+is-used-requires c κs = search needs
 
 print-call-requires :
     tie.Need-print-call-requires Inv-loop μ-loop Inv-loop2 μ-loop2 Inv-loop3 μ-loop3
@@ -81,9 +83,9 @@ element-copy-out-c-3 :
     tie.Need-element-copy-out-c-3 Inv-loop μ-loop Inv-loop2 μ-loop2 Inv-loop3 μ-loop3
 element-copy-out-c-3 c = search needs
 
-print-loose-requires :
-    tie.Need-print-loose-requires Inv-loop μ-loop Inv-loop2 μ-loop2 Inv-loop3 μ-loop3
-print-loose-requires c κs = search needs
+print-standalone-requires :
+    tie.Need-print-standalone-requires Inv-loop μ-loop Inv-loop2 μ-loop2 Inv-loop3 μ-loop3
+print-standalone-requires c κs = search needs
 
 add-k : tie.Need-add-k Inv-loop μ-loop Inv-loop2 μ-loop2 Inv-loop3 μ-loop3
 add-k c = search needs
@@ -110,7 +112,7 @@ print-table-spec =
     loop-holds
     mul-c
     element-copy-out-c
-    shr-if1
+    is-used-requires
     print-call-requires
     add-i
     loop-less
@@ -125,7 +127,7 @@ print-table-spec =
     loop3-holds
     mul-c-3
     element-copy-out-c-3
-    print-loose-requires
+    print-standalone-requires
     add-k
     loop3-less
     loop3-again

@@ -12,8 +12,8 @@ add-get16 c = search needs
 get16-requires : tie.Need-get16-requires
 get16-requires c κs = search needs
 
-no-loose-place-requires : tie.Need-no-loose-place-requires
-no-loose-place-requires c κs = search needs
+no-standalone-place-requires : tie.Need-no-standalone-place-requires
+no-standalone-place-requires c κs = search needs
 
 mul-get32 : tie.Need-mul-get32
 mul-get32 c = search needs
@@ -31,7 +31,7 @@ cast-t13 : tie.Need-cast-t13
 cast-t13 c = search needs
 
 returns : tie.Need-returns
-returns c = rw (c .before .no-loose-place .ensures, c .before .before .get16 .ensures, c .get32 .ensures)
+returns c = rw (c .before .no-standalone-place .ensures, c .before .before .get16 .ensures, c .get32 .ensures)
 
 pub customer-at-spec : {M : Type 1} → statement M
 customer-at-spec =
@@ -40,7 +40,7 @@ customer-at-spec =
     mul-get16
     add-get16
     get16-requires
-    no-loose-place-requires
+    no-standalone-place-requires
     mul-get32
     add-get32
     get32-requires

@@ -1,4 +1,5 @@
--- `read_records` meets its contract: the answer from record k on is the answer to the whole, and customers and sum are those of the first k.
+-- `read_records` meets its contract: the answer from record k on is the answer to the whole, and customers and sum are
+-- those of the first k.
 use Prim.Native.Nat.{_≤_, _-_, _*_}
 use native.Mathlib.Nat.{sub-zero}
 use native.Mathlib.Omega.{arith}

@@ -1,9 +1,10 @@
--- `rules_hold` meets its contract: each part tests some of the rules, and the connections of Call ID 0 are tested apart from those under calls.
+-- `rules_hold` meets its contract: each part tests some of the rules, and the connections of Call ID 0 are tested apart
+-- from those under calls.
 use mathlib.Core.Bool.{Bool, true, false, not, _&&_, and-comm}
 use mathlib.Core.Path.{_≡_, refl}
 use borrow.Author.Needs.{needs}
 use Rattle.table.specs.Rules.{sameLsp, holds, rosterAcceptable, sendersListed, withinLimits, shareWithinTotal, shortIdsOnce, longIdsOnce, namesAndIds, freeHoldsZeros, rulesHold}
-use Rattle.table.specs.Lists.{heldAt, looseAt}
+use Rattle.table.specs.Lists.{heldAt, standaloneAt}
 use Rattle.table.specs.Total.{totalOf}
 use Rattle.lists.proofs.Pairs.{no-two-append}
 use Rattle.lists.specs.Count.{noTwo}
@@ -34,8 +35,8 @@ shares-hold-requires c κs = search needs
 calls-apart-requires : tie.Need-calls-apart-requires
 calls-apart-requires c κs = search needs
 
-loose-once-requires : tie.Need-loose-once-requires
-loose-once-requires c κs = search needs
+standalone-once-requires : tie.Need-standalone-once-requires
+standalone-once-requires c κs = search needs
 
 names-and-ids-requires : tie.Need-names-and-ids-requires
 names-and-ids-requires c κs = search needs
@@ -47,10 +48,10 @@ returns : tie.Need-returns
 unfolding rulesHold
 returns c =
     let t = c .before .before .before .before .before .before .before .args .t in
-    rw (c .before .before .before .before .before .before .roster-holds .ensures, c .before .before .before .before .before .senders-listed .ensures, c .before .before .before .before .shares-hold .ensures, c .before .before .before .calls-apart .ensures, c .before .before .loose-once .ensures, c .before .names-and-ids .ensures, c .free-holds-zeros .ensures, no-two-append sameLsp (below (heldAt t) (totalOf t)) (below (looseAt t) 8))
+    rw (c .before .before .before .before .before .before .roster-holds .ensures, c .before .before .before .before .before .senders-listed .ensures, c .before .before .before .before .shares-hold .ensures, c .before .before .before .calls-apart .ensures, c .before .before .standalone-once .ensures, c .before .names-and-ids .ensures, c .free-holds-zeros .ensures, no-two-append sameLsp (below (heldAt t) (totalOf t)) (below (standaloneAt t) 8))
     (regrouped (holds rosterAcceptable t) (holds sendersListed t) (holds withinLimits t) (holds shareWithinTotal t) (holds shortIdsOnce t) (holds longIdsOnce t)
     (noTwo sameLsp (below (heldAt t) (totalOf t)))
-    (noTwo sameLsp (below (looseAt t) 8) && not (meet sameLsp (below (heldAt t) (totalOf t)) (below (looseAt t) 8)))
+    (noTwo sameLsp (below (standaloneAt t) 8) && not (meet sameLsp (below (heldAt t) (totalOf t)) (below (standaloneAt t) 8)))
     (holds namesAndIds t) (holds freeHoldsZeros t))
 
 pub rules-hold-spec : {M : Type 1} → statement M
@@ -61,7 +62,7 @@ rules-hold-spec =
     senders-listed-requires
     shares-hold-requires
     calls-apart-requires
-    loose-once-requires
+    standalone-once-requires
     names-and-ids-requires
     free-holds-zeros-requires
     returns)

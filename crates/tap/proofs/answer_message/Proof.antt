@@ -4,13 +4,6 @@ use mathlib.Core.Path.{sym}
 use borrow.Author.Needs.{needs}
 use Rattle.tap.proofs.answer_message.Statement.{statement}
 use Rattle.tap.proofs.answer_message.Tie as tie
-use Rattle.tap.proofs.answer_message.Reads as reads
-use Rattle.tap.proofs.answer_message.Lts as lts
-use Rattle.answers.proofs.answer.number.Reads as number-reads
-use Rattle.io.proofs.print_decimal.Reads as print-decimal-reads
-use Rattle.io.proofs.write_all.Reads as write-all-reads
-use Rattle.node.proofs.handle.handle.Reads as handle-reads
-use Rattle.tap.proofs.print_number.Reads as print-number-reads
 
 returns : tie.Need-returns
 returns c = search needs

@@ -4,13 +4,6 @@ use mathlib.Core.Path.{sym}
 use borrow.Author.Needs.{needs}
 use Rattle.tap.proofs.answer_roster.Statement.{statement}
 use Rattle.tap.proofs.answer_roster.Tie as tie
-use Rattle.tap.proofs.answer_roster.Reads as reads
-use Rattle.tap.proofs.answer_roster.Lts as lts
-use Rattle.io.proofs.write_all.Reads as write-all-reads
-use Rattle.rosters.proofs.read_roster.Reads as read-roster-reads
-use Rattle.table.proofs.answer.roster_number.Reads as roster-number-reads
-use Rattle.tap.proofs.answer_all.Reads as answer-all-reads
-use Rattle.tap.proofs.print_number.Reads as print-number-reads
 
 returns : tie.Need-returns
 returns c = search needs

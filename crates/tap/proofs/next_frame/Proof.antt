@@ -4,10 +4,6 @@ use mathlib.Core.Path.{sym}
 use borrow.Author.Needs.{needs}
 use Rattle.tap.proofs.next_frame.Statement.{statement}
 use Rattle.tap.proofs.next_frame.Tie as tie
-use Rattle.tap.proofs.next_frame.Reads as reads
-use Rattle.tap.proofs.next_frame.Lts as lts
-use Rattle.io.proofs.read_full.Reads as read-full-reads
-use Rattle.numbers.proofs.big_endian.get16.Reads as get16-reads
 
 slice-aggregate-read-full : tie.Need-slice-aggregate-read-full
 slice-aggregate-read-full c = search needs

@@ -1,27 +1,21 @@
 -- `row_of`: each case has its row.
 use mathlib.Core.Path.{sym, ap, _∙_}
-use Rattle.answers.specs.Answers.{silent, rowOf}
+use Rattle.answers.specs.Answers.{noReply, rowOf}
 use borrow.Author.Needs.{needs}
 use Rattle.answers.proofs.answer.row_of.Statement.{statement}
 use Rattle.answers.proofs.answer.row_of.Tie as tie
-use Rattle.answers.proofs.answer.row_of.Reads as reads
-use Rattle.answers.proofs.answer.row_of.Lts as lts
-use Rattle.answers.proofs.answer.by_notify.Reads as by-notify-reads
-use Rattle.answers.proofs.answer.by_path_err.Reads as by-path-err-reads
-use Rattle.answers.proofs.answer.silent.Reads as silent-reads
-use Rattle.objects.proofs.fault.number.Reads as number-reads
 
 enum-told : tie.Need-enum-told
 enum-told c = search needs
 
-silent-requires : tie.Need-silent-requires
-silent-requires c κs = search needs
+no-reply-requires : tie.Need-no-reply-requires
+no-reply-requires c κs = search needs
 
 enum-told-2 : tie.Need-enum-told-2
 enum-told-2 c = search needs
 
-silent-requires-2 : tie.Need-silent-requires-2
-silent-requires-2 c κs = search needs
+no-reply-requires-2 : tie.Need-no-reply-requires-2
+no-reply-requires-2 c κs = search needs
 
 enum-known-a : tie.Need-enum-known-a
 enum-known-a c = search needs
@@ -29,26 +23,26 @@ enum-known-a c = search needs
 number-requires : tie.Need-number-requires
 number-requires c κs = search needs
 
-silent-requires-3 : tie.Need-silent-requires-3
-silent-requires-3 c κs = search needs
+no-reply-requires-3 : tie.Need-no-reply-requires-3
+no-reply-requires-3 c κs = search needs
 
 enum-told-3 : tie.Need-enum-told-3
 enum-told-3 c = search needs
 
-silent-requires-4 : tie.Need-silent-requires-4
-silent-requires-4 c κs = search needs
+no-reply-requires-4 : tie.Need-no-reply-requires-4
+no-reply-requires-4 c κs = search needs
 
 enum-told-4 : tie.Need-enum-told-4
 enum-told-4 c = search needs
 
-silent-requires-5 : tie.Need-silent-requires-5
-silent-requires-5 c κs = search needs
+no-reply-requires-5 : tie.Need-no-reply-requires-5
+no-reply-requires-5 c κs = search needs
 
 enum-told-5 : tie.Need-enum-told-5
 enum-told-5 c = search needs
 
-silent-requires-6 : tie.Need-silent-requires-6
-silent-requires-6 c κs = search needs
+no-reply-requires-6 : tie.Need-no-reply-requires-6
+no-reply-requires-6 c κs = search needs
 
 enum-told-6 : tie.Need-enum-told-6
 enum-told-6 c = search needs
@@ -71,20 +65,20 @@ by-notify-requires-3 c κs = search needs
 enum-told-9 : tie.Need-enum-told-9
 enum-told-9 c = search needs
 
-silent-requires-7 : tie.Need-silent-requires-7
-silent-requires-7 c κs = search needs
+no-reply-requires-7 : tie.Need-no-reply-requires-7
+no-reply-requires-7 c κs = search needs
 
 enum-told-10 : tie.Need-enum-told-10
 enum-told-10 c = search needs
 
-silent-requires-8 : tie.Need-silent-requires-8
-silent-requires-8 c κs = search needs
+no-reply-requires-8 : tie.Need-no-reply-requires-8
+no-reply-requires-8 c κs = search needs
 
 enum-told-11 : tie.Need-enum-told-11
 enum-told-11 c = search needs
 
-silent-requires-9 : tie.Need-silent-requires-9
-silent-requires-9 c κs = search needs
+no-reply-requires-9 : tie.Need-no-reply-requires-9
+no-reply-requires-9 c κs = search needs
 
 enum-told-12 : tie.Need-enum-told-12
 enum-told-12 c = search needs
@@ -129,22 +123,22 @@ by-path-err-requires-2 : tie.Need-by-path-err-requires-2
 by-path-err-requires-2 c κs = search needs
 
 returns : tie.Need-returns
-returns c = rw (c .before .enum-told .given .1) (c .silent .ensures)
+returns c = rw (c .before .enum-told .given .1) (c .no-reply .ensures)
 
 returns-2 : tie.Need-returns-2
-returns-2 c = rw (c .before .enum-told2 .given .1) (c .silent2 .ensures)
+returns-2 c = rw (c .before .enum-told2 .given .1) (c .no-reply2 .ensures)
 
 returns-3 : tie.Need-returns-3
-returns-3 c = c .silent3 .ensures ∙ ap silent (c .before .number .ensures) ∙ ap rowOf (sym (c .before .before .before .a .given .1))
+returns-3 c = c .no-reply3 .ensures ∙ ap noReply (c .before .number .ensures) ∙ ap rowOf (sym (c .before .before .before .a .given .1))
 
 returns-4 : tie.Need-returns-4
-returns-4 c = rw (c .before .enum-told3 .given .1) (c .silent4 .ensures)
+returns-4 c = rw (c .before .enum-told3 .given .1) (c .no-reply4 .ensures)
 
 returns-5 : tie.Need-returns-5
-returns-5 c = rw (c .before .enum-told4 .given .1) (c .silent5 .ensures)
+returns-5 c = rw (c .before .enum-told4 .given .1) (c .no-reply5 .ensures)
 
 returns-6 : tie.Need-returns-6
-returns-6 c = rw (c .before .enum-told5 .given .1) (c .silent6 .ensures)
+returns-6 c = rw (c .before .enum-told5 .given .1) (c .no-reply6 .ensures)
 
 returns-7 : tie.Need-returns-7
 returns-7 c = rw (c .before .enum-told6 .given .1) (c .by-notify .ensures)
@@ -156,13 +150,13 @@ returns-9 : tie.Need-returns-9
 returns-9 c = rw (c .before .enum-told8 .given .1) (c .by-notify3 .ensures)
 
 returns-10 : tie.Need-returns-10
-returns-10 c = rw (c .before .enum-told9 .given .1) (c .silent7 .ensures)
+returns-10 c = rw (c .before .enum-told9 .given .1) (c .no-reply7 .ensures)
 
 returns-11 : tie.Need-returns-11
-returns-11 c = rw (c .before .enum-told10 .given .1) (c .silent8 .ensures)
+returns-11 c = rw (c .before .enum-told10 .given .1) (c .no-reply8 .ensures)
 
 returns-12 : tie.Need-returns-12
-returns-12 c = rw (c .before .enum-told11 .given .1) (c .silent9 .ensures)
+returns-12 c = rw (c .before .enum-told11 .given .1) (c .no-reply9 .ensures)
 
 returns-13 : tie.Need-returns-13
 returns-13 c = rw (c .before .enum-told12 .given .1) (c .by-notify4 .ensures)
@@ -190,18 +184,18 @@ row-of-spec =
     tie.close
     (tie.spec
     enum-told
-    silent-requires
+    no-reply-requires
     enum-told-2
-    silent-requires-2
+    no-reply-requires-2
     enum-known-a
     number-requires
-    silent-requires-3
+    no-reply-requires-3
     enum-told-3
-    silent-requires-4
+    no-reply-requires-4
     enum-told-4
-    silent-requires-5
+    no-reply-requires-5
     enum-told-5
-    silent-requires-6
+    no-reply-requires-6
     enum-told-6
     by-notify-requires
     enum-told-7
@@ -209,11 +203,11 @@ row-of-spec =
     enum-told-8
     by-notify-requires-3
     enum-told-9
-    silent-requires-7
+    no-reply-requires-7
     enum-told-10
-    silent-requires-8
+    no-reply-requires-8
     enum-told-11
-    silent-requires-9
+    no-reply-requires-9
     enum-told-12
     by-notify-requires-4
     enum-told-13

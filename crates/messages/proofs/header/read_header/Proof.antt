@@ -30,16 +30,16 @@ unfolding headerOf
 returns-3 c =
     simp (sym (c .before .before .before .before .before .bad-message-length .ensures) ∙ c .before .before .before .before .if1 .left, eq-eqb _ _ (c .before .before .if2 .left), sym (c .before .checksum-holds .ensures) ∙ not-true _ (c .if3 .taken))
 
-shared-slice-read-kind-of : tie.Need-shared-slice-read-kind-of
-shared-slice-read-kind-of c = omega (arith, good-message-length _ (sym (c .before .before .before .before .before .before .bad-message-length .ensures) ∙ c .before .before .before .before .before .if1 .left))
+shared-slice-read-type-of : tie.Need-shared-slice-read-type-of
+shared-slice-read-type-of c = omega (arith, good-message-length _ (sym (c .before .before .before .before .before .before .bad-message-length .ensures) ∙ c .before .before .before .before .before .if1 .left))
 
-kind-of-requires : tie.Need-kind-of-requires
-kind-of-requires c κs = search needs
+type-of-requires : tie.Need-type-of-requires
+type-of-requires c κs = search needs
 
 returns-4 : tie.Need-returns-4
 unfolding headerOf
 returns-4 c =
-    simp (sym (c .before .before .before .before .before .before .before .bad-message-length .ensures) ∙ c .before .before .before .before .before .before .if1 .left, eq-eqb _ _ (c .before .before .before .before .if2 .left), sym (c .before .before .before .checksum-holds .ensures) ∙ not-false _ (c .before .before .if3 .left), c .kind-of .ensures)
+    simp (sym (c .before .before .before .before .before .before .before .bad-message-length .ensures) ∙ c .before .before .before .before .before .before .if1 .left, eq-eqb _ _ (c .before .before .before .before .if2 .left), sym (c .before .before .before .checksum-holds .ensures) ∙ not-false _ (c .before .before .if3 .left), c .type-of .ensures)
 
 pub read-header-spec : {M : Type 1} → statement M
 read-header-spec =
@@ -51,6 +51,6 @@ read-header-spec =
     returns-2
     checksum-holds-requires
     returns-3
-    shared-slice-read-kind-of
-    kind-of-requires
+    shared-slice-read-type-of
+    type-of-requires
     returns-4)

@@ -1,4 +1,5 @@
--- `read::read` meets its contract: each arm is its case of `readOf`, and the walk promises the places of what it has seen.
+-- `read::read` meets its contract: each arm is its case of `readOf`, and the walk promises the places of what it has
+-- seen.
 use mathlib.Core.Path.{sym, ap, _∙_}
 use borrow.Author.Needs.{needs}
 use Rattle.objects.proofs.Placed.{walk-placed}
@@ -12,8 +13,8 @@ read-header-requires c κs = search needs
 enum-known-fault : tie.Need-enum-known-fault
 enum-known-fault c = search needs
 
-enum-known-kind : tie.Need-enum-known-kind
-enum-known-kind c = search needs
+enum-known-mtype : tie.Need-enum-known-mtype
+enum-known-mtype c = search needs
 
 walk-requires : tie.Need-walk-requires
 walk-requires c κs = search needs
@@ -34,14 +35,14 @@ returns c = sym (ap (headerRead _) (sym (c .before .before .before .read-header 
 returns-2 : tie.Need-returns-2
 unfolding readOf
 returns-2 c =
-    sym (ap (headerRead _) (sym (c .before .before .before .before .before .before .before .read-header .ensures) ∙ c .before .before .before .before .before .kind .given .1)
+    sym (ap (headerRead _) (sym (c .before .before .before .before .before .before .before .read-header .ensures) ∙ c .before .before .before .before .before .mtype .given .1)
     ∙ ap (walkedRead _ _) (sym (c .before .before .before .walk .ensures) ∙ c .before .fault2 .given .1))
 
 returns-3 : tie.Need-returns-3
 unfolding readOf
 returns-3 c =
     c .read-objects .ensures
-    ∙ sym (ap (headerRead _) (sym (c .before .before .before .before .before .before .before .before .read-header .ensures) ∙ c .before .before .before .before .before .before .kind .given .1)
+    ∙ sym (ap (headerRead _) (sym (c .before .before .before .before .before .before .before .before .read-header .ensures) ∙ c .before .before .before .before .before .before .mtype .given .1)
     ∙ ap (walkedRead _ _) (sym (c .before .before .before .before .walk .ensures) ∙ c .before .before .v .given .1))
 
 pub read-spec : {M : Type 1} → statement M
@@ -50,7 +51,7 @@ read-spec =
     (tie.spec
     read-header-requires
     enum-known-fault
-    enum-known-kind
+    enum-known-mtype
     walk-requires
     enum-known-fault-2
     enum-known-v

@@ -8,8 +8,8 @@ use Rattle.messages.proofs.Bounds.{notify-bounds}
 use Rattle.messages.proofs.read.read_notify.Statement.{statement}
 use Rattle.messages.proofs.read.read_notify.Tie as tie
 
--- `read::read_notify` meets its contract: at each return the tests passed say which case of `notifyOf` it is, and complete objects
--- lie within the message.
+-- `read::read_notify` meets its contract: at each return the tests passed say which case of `notifyOf` it is, and
+-- complete objects lie within the message.
 
 notify-complete-requires : tie.Need-notify-complete-requires
 notify-complete-requires c κs = search needs

@@ -1,4 +1,5 @@
--- `read::read_objects` meets its contract: a Notify is its own case of `objectsRead`, and the other kinds say what `adds` is.
+-- `read::read_objects` meets its contract: a Notify is its own case of `objectsRead`, and the other kinds say what
+-- `adds` is.
 use Prim.Native.Nat.{ℕ}
 use native.Mathlib.Omega.{arith}
 use mathlib.Core.Path.{_≡_, refl, ap, _∙_}
@@ -9,15 +10,15 @@ use denote.Enum.Declared.{tagOf}
 use types.Run.{OneOf}
 use borrow.Author.Needs.{needs}
 use Rattle.objects.specs.declared.walk.Objects.{Objects}
-use Rattle.messages.specs.declared.header.Kind.{Kind}
-use Rattle.messages.proofs.header.Kind as kind
-use Rattle.messages.specs.declared.header.Kind.the-variants.{Path, PathTear, Notify}
+use Rattle.messages.specs.declared.header.MessageType.{MessageType}
+use Rattle.messages.proofs.header.MessageType as message-type
+use Rattle.messages.specs.declared.header.MessageType.the-variants.{Path, PathTear, Notify}
 use Rattle.messages.specs.Read.{pathOf, objectsRead}
 use Rattle.messages.proofs.read.read_objects.Statement.{statement}
 use Rattle.messages.proofs.read.read_objects.Tie as tie
 
 -- a kind with one of the first two tags, and what `adds` says of it
-by-path : (s : List ℕ) (v : Objects) (k : Kind) (a : Bool) → OneOf (0 ∷ 1 ∷ []) (tagOf kind.the-type k) → (k ≡ Path → a ≡ true) × (k ≡ PathTear → a ≡ false)
+by-path : (s : List ℕ) (v : Objects) (k : MessageType) (a : Bool) → OneOf (0 ∷ 1 ∷ []) (tagOf message-type.the-type k) → (k ≡ Path → a ≡ true) × (k ≡ PathTear → a ≡ false)
     → pathOf s v a ≡ objectsRead s k v
 by-path s v Path a t w = ap (pathOf s v) (w .0 refl)
 by-path s v PathTear a t w = ap (pathOf s v) (w .1 refl)

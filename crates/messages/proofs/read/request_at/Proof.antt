@@ -25,14 +25,14 @@ get16-requires c κs = search needs
 add-t13 : tie.Need-add-t13
 add-t13 c = search needs
 
-add-widened : tie.Need-add-widened
-add-widened c = search needs
+add-to-usize : tie.Need-add-to-usize
+add-to-usize c = search needs
 
-shared-slice-read-widened : tie.Need-shared-slice-read-widened
-shared-slice-read-widened c = search needs
+shared-slice-read-to-usize : tie.Need-shared-slice-read-to-usize
+shared-slice-read-to-usize c = search needs
 
-widened-requires : tie.Need-widened-requires
-widened-requires c κs = search needs
+to-usize-requires : tie.Need-to-usize-requires
+to-usize-requires c κs = search needs
 
 add-get24 : tie.Need-add-get24
 add-get24 c = search needs
@@ -55,7 +55,7 @@ cast-t26 c = search needs
 returns : tie.Need-returns
 unfolding requestAt
 returns c =
-    simp (c .before .before .before .before .before .before .before .get32 .ensures, c .before .before .before .before .before .before .get322 .ensures, c .before .before .before .before .before .get16 .ensures, c .before .before .before .widened .ensures, c .before .before .get24 .ensures, c .before .get323 .ensures, c .get162 .ensures)
+    simp (c .before .before .before .before .before .before .before .get32 .ensures, c .before .before .before .before .before .before .get322 .ensures, c .before .before .before .before .before .get16 .ensures, c .before .before .before .to-usize .ensures, c .before .before .get24 .ensures, c .before .get323 .ensures, c .get162 .ensures)
 
 pub request-at-spec : {M : Type 1} → statement M
 request-at-spec =
@@ -68,9 +68,9 @@ request-at-spec =
     add-get16
     get16-requires
     add-t13
-    add-widened
-    shared-slice-read-widened
-    widened-requires
+    add-to-usize
+    shared-slice-read-to-usize
+    to-usize-requires
     add-get24
     get24-requires
     add-get32-3

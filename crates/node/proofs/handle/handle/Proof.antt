@@ -1,16 +1,11 @@
 -- `handle`: a table that breaks a rule is answered 1, any other goes on to the tests from 2.
-use Rattle.node.proofs.Settled.{left-quiet}
-use Rattle.calls.proofs.Handled.{handled-broken}
+use Rattle.outcomes.proofs.Unanswered.{left-quiet}
+use Rattle.outcomes.proofs.Handled.{handled-broken}
 use Rattle.answers.specs.declared.answer.Answer.the-variants.{TableBroken}
 use mathlib.Core.Path.{sym, _∙_}
 use borrow.Author.Needs.{needs}
 use Rattle.node.proofs.handle.handle.Statement.{statement}
 use Rattle.node.proofs.handle.handle.Tie as tie
-use Rattle.node.proofs.handle.handle.Reads as reads
-use Rattle.node.proofs.handle.handle.Lts as lts
-use Rattle.node.proofs.handle.handle_checked.Reads as handle-checked-reads
-use Rattle.node.proofs.outcome.unanswered.Reads as unanswered-reads
-use Rattle.rules.proofs.rules_hold.Reads as rules-hold-reads
 
 rules-hold-requires : tie.Need-rules-hold-requires
 rules-hold-requires c κs = search needs

@@ -1,6 +1,6 @@
 -- `handle_checked`: each return has the tests of its form; a message of no fault goes to the rules.
-use Rattle.node.proofs.Settled.{left-quiet}
-use Rattle.calls.proofs.Handled.{handled-faulty, handled-sound, form-small, form-refused, form-unfit, form-unfit-stranger, form-sound, form-stranger}
+use Rattle.outcomes.proofs.Unanswered.{left-quiet}
+use Rattle.outcomes.proofs.Handled.{handled-faulty, handled-sound, form-small, form-refused, form-unfit, form-unfit-unlisted, form-sound, form-unlisted}
 use Rattle.answers.specs.declared.answer.Answer.the-variants.{BufferTooSmall, Malformed, SenderNotListed}
 use Rattle.table.specs.Share.{listed}
 use Rattle.table.specs.Lists.{roster}
@@ -9,13 +9,6 @@ use mathlib.Core.Path.{sym, ap, _∙_}
 use borrow.Author.Needs.{needs}
 use Rattle.node.proofs.handle.handle_checked.Statement.{statement}
 use Rattle.node.proofs.handle.handle_checked.Tie as tie
-use Rattle.node.proofs.handle.handle_checked.Reads as reads
-use Rattle.node.proofs.handle.handle_checked.Lts as lts
-use Rattle.lookups.proofs.share.listing_of.Reads as listing-of-reads
-use Rattle.messages.proofs.read.read.Reads as read-reads
-use Rattle.node.proofs.handle.handle_message.Reads as handle-message-reads
-use Rattle.node.proofs.handle.sender_of.Reads as sender-of-reads
-use Rattle.node.proofs.outcome.unanswered.Reads as unanswered-reads
 
 unanswered-requires : tie.Need-unanswered-requires
 unanswered-requires c κs = search needs
@@ -94,14 +87,14 @@ returns-5 c =
     let s = c .before .before .before .before .before .before .before .before .before .before in
     left-quiet (s .args .t) _ SenderNotListed _ (c .unanswered4 .ensures)
     ∙ sym (handled-faulty (s .args .t) _ _ SenderNotListed (s .pre)
-    (form-unfit-stranger _ _ _ (search needs) _ _ _ (sym (c .before .before .before .before .before .before .read .ensures) ∙ c .before .before .before .before .x2 .given .1) (sym (c .before .before .listing-of .ensures .0) ∙ c .before .if2 .left)))
+    (form-unfit-unlisted _ _ _ (search needs) _ _ _ (sym (c .before .before .before .before .before .before .read .ensures) ∙ c .before .before .before .before .x2 .given .1) (sym (c .before .before .listing-of .ensures .0) ∙ c .before .if2 .left)))
 
 returns-6 : tie.Need-returns-6
 returns-6 c =
     let s = c .before .before .before .before .before .before .before .before .before .before .before in
     left-quiet (s .args .t) _ SenderNotListed _ (c .unanswered5 .ensures)
     ∙ sym (handled-faulty (s .args .t) _ _ SenderNotListed (s .pre)
-    (form-stranger _ _ _ (search needs) _ _ (sym (c .before .before .before .before .before .before .before .read .ensures) ∙ c .before .before .before .before .before .x3 .given .1)
+    (form-unlisted _ _ _ (search needs) _ _ (sym (c .before .before .before .before .before .before .before .read .ensures) ∙ c .before .before .before .before .before .x3 .given .1)
     (sym (c .before .before .listing-of2 .ensures .0 ∙ ap (listed (roster (s .args .t))) (c .before .before .before .sender-of .ensures)) ∙ c .before .if3 .left)))
 
 pub handle-checked-spec : {M : Type 1} → statement M

@@ -2,12 +2,6 @@
 use borrow.Author.Needs.{needs}
 use Rattle.node.proofs.handle.handle_message.Statement.{statement}
 use Rattle.node.proofs.handle.handle_message.Tie as tie
-use Rattle.node.proofs.handle.handle_message.Reads as reads
-use Rattle.node.proofs.handle.handle_message.Lts as lts
-use Rattle.node.proofs.connections.add_connection.Reads as add-connection-reads
-use Rattle.node.proofs.connections.drop_connection.Reads as drop-connection-reads
-use Rattle.node.proofs.requests.close_call.Reads as close-call-reads
-use Rattle.node.proofs.requests.open_call.Reads as open-call-reads
 
 enum-known-m : tie.Need-enum-known-m
 enum-known-m c = search needs

@@ -2,8 +2,6 @@
 use borrow.Author.Needs.{needs}
 use Rattle.node.proofs.handle.sender_of.Statement.{statement}
 use Rattle.node.proofs.handle.sender_of.Tie as tie
-use Rattle.node.proofs.handle.sender_of.Reads as reads
-use Rattle.node.proofs.handle.sender_of.Lts as lts
 
 enum-known-m : tie.Need-enum-known-m
 enum-known-m c = search needs

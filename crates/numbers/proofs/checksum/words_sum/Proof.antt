@@ -1,4 +1,5 @@
--- `checksum::words_sum` meets its contract: the loop's sum is made of the sums of the high and the low bytes passed, at most 255 a byte.
+-- `checksum::words_sum` meets its contract: the loop's sum is made of the sums of the high and the low bytes passed, at
+-- most 255 a byte.
 use Prim.Native.Nat.{ℕ, _≤_, _+_, _*_, _-_, _/_, _%_}
 use native.Mathlib.Numerals.{add-one}
 use native.Mathlib.Omega.{arith}

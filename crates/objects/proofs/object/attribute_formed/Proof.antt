@@ -7,7 +7,8 @@ use Rattle.objects.specs.Forms.{hasForm, attributeFormed, roundedUpTo4, 
 use Rattle.objects.proofs.object.attribute_formed.Statement.{statement}
 use Rattle.objects.proofs.object.attribute_formed.Tie as tie
 
--- `object::attribute_formed` meets its contract. An object under 8 bytes has no name length, and its own length fails the row's test.
+-- `object::attribute_formed` meets its contract. An object under 8 bytes has no name length, and its own length fails
+-- the row's test.
 
 returns : tie.Need-returns
 unfolding attributeFormed hasForm

@@ -1,5 +1,5 @@
--- `walk::walk` meets its contract: what it has seen is `objectsOf` the objects read, and the walk from here is the walk of the message.
--- Each object read took four bytes or more, so the counts fit.
+-- `walk::walk` meets its contract: what it has seen is `objectsOf` the objects read, and the walk from here is the walk
+-- of the message. Each object read took four bytes or more, so the counts fit.
 use Prim.Native.Nat.{ℕ, _+_, _-_, _*_, _≤_}
 use native.Mathlib.Omega.{arith}
 use mathlib.Core.List.{List, [], _∷_}
@@ -8,7 +8,7 @@ use lib.ListN.{length}
 use denote.Ref.{now}
 use borrow.Author.Needs.{needs}
 use Rattle.objects.specs.Walk.{withObject, objectsOf, walkFrom, walkOf}
-use Rattle.objects.specs.declared.walk.Walked.the-variants.{Whole}
+use Rattle.objects.specs.declared.walk.Walked.the-variants.{Finished}
 use Rattle.objects.specs.declared.walk.Objects.{Objects}
 use Rattle.objects.specs.declared.object.Object.{Object}
 use Rattle.objects.proofs.Steps.{found-at, room, grown, ended, stopped, onward}
@@ -40,7 +40,7 @@ returns : tie.Need-returns Inv-loop μ-loop
 returns c =
     let i = c .before .before .before .loop .inv in
     let e = sym (c .before .before .item-at .ensures) ∙ c .enum-told .given .1 in
-    ap Whole (i .2) ∙ sym (ended _ _ (i .0) (i .1) e) ∙ i .6
+    ap Finished (i .2) ∙ sym (ended _ _ (i .0) (i .1) e) ∙ i .6
 
 enum-known-fault : tie.Need-enum-known-fault Inv-loop μ-loop
 enum-known-fault c = search needs

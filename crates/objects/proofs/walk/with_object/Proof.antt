@@ -1,4 +1,5 @@
--- `walk::with_object` meets its contract: the class that was tested says which field of `withObject` grows, or that none does.
+-- `walk::with_object` meets its contract: the class that was tested says which field of `withObject` grows, or that
+-- none does.
 use borrow.Author.Tests.{ne-eqb}
 use borrow.Author.Needs.{needs}
 use Rattle.objects.proofs.walk.with_object.Statement.{statement}
@@ -7,41 +8,41 @@ use Rattle.objects.proofs.walk.with_object.Tie as tie
 add-v : tie.Need-add-v
 add-v c = search needs
 
-sighted-requires : tie.Need-sighted-requires
-sighted-requires c κs = search needs
+seen-once-more-requires : tie.Need-seen-once-more-requires
+seen-once-more-requires c κs = search needs
 
 returns : tie.Need-returns
-returns c = rw (c .sighted .ensures, c .before .if1 .taken)
+returns c = rw (c .seen-once-more .ensures, c .before .if1 .taken)
 
-sighted-requires-2 : tie.Need-sighted-requires-2
-sighted-requires-2 c κs = search needs
+seen-once-more-requires-2 : tie.Need-seen-once-more-requires-2
+seen-once-more-requires-2 c κs = search needs
 
 returns-2 : tie.Need-returns-2
-returns-2 c = rw (c .sighted2 .ensures, c .before .if2 .taken)
+returns-2 c = rw (c .seen-once-more2 .ensures, c .before .if2 .taken)
 
-sighted-requires-3 : tie.Need-sighted-requires-3
-sighted-requires-3 c κs = search needs
+seen-once-more-requires-3 : tie.Need-seen-once-more-requires-3
+seen-once-more-requires-3 c κs = search needs
 
 returns-3 : tie.Need-returns-3
-returns-3 c = rw (c .sighted3 .ensures, c .before .if3 .taken)
+returns-3 c = rw (c .seen-once-more3 .ensures, c .before .if3 .taken)
 
-sighted-requires-4 : tie.Need-sighted-requires-4
-sighted-requires-4 c κs = search needs
+seen-once-more-requires-4 : tie.Need-seen-once-more-requires-4
+seen-once-more-requires-4 c κs = search needs
 
 returns-4 : tie.Need-returns-4
-returns-4 c = rw (c .sighted4 .ensures, c .before .if4 .taken)
+returns-4 c = rw (c .seen-once-more4 .ensures, c .before .if4 .taken)
 
-sighted-requires-5 : tie.Need-sighted-requires-5
-sighted-requires-5 c κs = search needs
+seen-once-more-requires-5 : tie.Need-seen-once-more-requires-5
+seen-once-more-requires-5 c κs = search needs
 
 returns-5 : tie.Need-returns-5
-returns-5 c = rw (c .sighted5 .ensures, c .before .if5 .taken)
+returns-5 c = rw (c .seen-once-more5 .ensures, c .before .if5 .taken)
 
-sighted-requires-6 : tie.Need-sighted-requires-6
-sighted-requires-6 c κs = search needs
+seen-once-more-requires-6 : tie.Need-seen-once-more-requires-6
+seen-once-more-requires-6 c κs = search needs
 
 returns-6 : tie.Need-returns-6
-returns-6 c = rw (c .sighted6 .ensures, c .before .if6 .taken)
+returns-6 c = rw (c .seen-once-more6 .ensures, c .before .if6 .taken)
 
 returns-7 : tie.Need-returns-7
 returns-7 c =
@@ -52,16 +53,16 @@ with-object-spec =
     tie.close
     (tie.spec
     add-v
-    sighted-requires
+    seen-once-more-requires
     returns
-    sighted-requires-2
+    seen-once-more-requires-2
     returns-2
-    sighted-requires-3
+    seen-once-more-requires-3
     returns-3
-    sighted-requires-4
+    seen-once-more-requires-4
     returns-4
-    sighted-requires-5
+    seen-once-more-requires-5
     returns-5
-    sighted-requires-6
+    seen-once-more-requires-6
     returns-6
     returns-7)

@@ -1,0 +1,106 @@
+//! Handling a message: both programs take the table as they find it and check every rule of it before each message. A
+//! reply buffer has 128 bytes and is not cleared between messages; each message gets the table that the one before it
+//! left.
+
+use crate::clock;
+use crate::inputs::Calls;
+use crate::output;
+use compare::build::{self, Sum};
+use compare::first;
+use second::table::Table;
+use second::Node;
+
+/// A message and the answer that is due to it.
+pub type Due = (Vec<u8>, u8);
+
+/// A row: its name, the table that it starts from, and the messages that are sent in turns. After the last of them,
+/// the table's calls and connections are those that it started with.
+pub struct Row {
+    pub name: String,
+    pub table: Table,
+    pub messages: Vec<Due>,
+}
+
+/// Retry, opening and closing, Path and PathTear, two refusals. A table of no calls has the one that a retry or a Path
+/// is about, and no other.
+pub fn rows(calls: Calls) -> Vec<Row> {
+    let last = calls.last();
+    let with_last = calls.table_of(0..last + 1, 4);
+    let row = |name: &str, none: &str, table: Table, messages: Vec<Due>| Row {
+        name: format!("{name}, {}", calls.name(none)),
+        table,
+        messages,
+    };
+    let open = calls.open(last);
+    let opened_and_closed = vec![(open.clone(), 20), (calls.close(last), 22)];
+    let added_and_removed = vec![(calls.path(last, 3), 23), (calls.path_tear(last, 3), 25)];
+    let (cut, padded) = (vec![(open[..7].to_vec(), 3)], vec![(wrong_padding(&open), 9)]);
+    let none = "0 calls";
+    vec![
+        row("(a) retry 21", "1 call, the one retried", with_last, vec![(open, 21)]),
+        row(
+            "(b) open 20, close 22",
+            "0 calls before and after",
+            calls.table_before_last(),
+            opened_and_closed,
+        ),
+        row(
+            "(c) Path 23, PathTear 25",
+            "1 call, the one of the Path",
+            calls.table_of(0..last + 1, 3),
+            added_and_removed,
+        ),
+        row("(d) refused at 3", none, calls.table(), cut),
+        row("(d) refused at 9", none, calls.table(), padded),
+    ]
+}
+
+/// A setup with a byte set in the padding behind its name.
+fn wrong_padding(open: &[u8]) -> Vec<u8> {
+    let mut message = open.to_vec();
+    // The SENDER_TEMPLATE, the last object, has 12 bytes.
+    let end_of_attribute = message.len() - 12;
+    message[end_of_attribute - 1] = 1;
+    build::write_sum(&mut message, Sum::Right);
+    message
+}
+
+/// Times a row and prints it.
+pub fn measure(row: &Row) {
+    let count = row.messages.len() as f64;
+    let (mut one, mut two) = (row.table, row.table);
+    let (mut reply, mut other) = ([0; 128], [0; 128]);
+    let mut first = || {
+        for (message, due) in &row.messages {
+            let done = first::handle(&one, message, &mut reply);
+            assert_eq!(done.0, *due);
+            one = done.2;
+        }
+        u64::from(one.next)
+    };
+    let mut second = || {
+        for (message, due) in &row.messages {
+            let done = second::handle(&two, message, &mut other);
+            assert_eq!(done.0, *due);
+            two = done.2;
+        }
+        u64::from(two.next)
+    };
+    let (proved, checked) = clock::in_turns(&mut first, &mut second);
+    let unchecked = unchecked(row) / count;
+    output::times(&row.name, (proved / count, checked / count), Some(unchecked));
+}
+
+/// The second program with its own state kept between messages, and no rule checked.
+fn unchecked(row: &Row) -> f64 {
+    let mut node = Node::from_table(&row.table).expect("a table that keeps the rules");
+    let mut reply = [0; 128];
+    let mut run = || {
+        let mut lengths = 0;
+        for (message, _) in &row.messages {
+            lengths += node.answer(message, &mut reply).1 as u64;
+        }
+        lengths
+    };
+    clock::alone(&mut run)
+}

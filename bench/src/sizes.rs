@@ -1,0 +1,39 @@
+//! The size of the table, and the stack that the proved program's functions use at a full one.
+
+use crate::inputs::{calls, Pairs};
+use crate::messages::{self, Row};
+use crate::output;
+use crate::stack;
+use compare::first;
+use second::table::Table;
+use std::hint::black_box;
+
+pub fn print() {
+    output::head_of_sizes();
+    output::size("the table", size_of::<Table>());
+    let full = calls(64, Pairs::One);
+    for row in messages::rows(full) {
+        output::size(&format!("stack, {}", row.name), stack_of(&row));
+    }
+    let (roster, table) = (full.roster(), full.table());
+    let (mut checkpoint, mut length) = (vec![0; 10_000], 0);
+    let used = stack::used(|| length = first::write_checkpoint(&table, &mut checkpoint).1);
+    output::size("stack, writing a checkpoint, 64 calls", used);
+    let used = stack::used(|| {
+        black_box(first::read_checkpoint(true, &roster, &checkpoint[..length]));
+    });
+    output::size("stack, reading a checkpoint, salvage, 64 calls", used);
+}
+
+/// The most that one of the row's messages uses.
+fn stack_of(row: &Row) -> usize {
+    let (mut table, mut most) = (row.table, 0);
+    for (message, due) in &row.messages {
+        let mut reply = [0; 128];
+        let mut done = (0, 0, table);
+        let used = stack::used(|| done = first::handle(&table, message, &mut reply));
+        assert_eq!(done.0, *due);
+        (table, most) = (done.2, most.max(used));
+    }
+    most
+}

@@ -1,0 +1,79 @@
+//! One checkpoint and roster, read plain and with salvage, and compared with what A13 makes due.
+
+use super::both::{self, Read};
+use super::expected::{expected_drops, Drops};
+use super::parts::Parts;
+use super::table_source::roster_of;
+use super::tally::Tally;
+use super::writing;
+use crate::both::{roster as read_roster, same_tables};
+use crate::form;
+use second::table::Table;
+use second::Node;
+
+/// What is due.
+enum Due {
+    /// The roster's refusal, 70 or 71.
+    Refused(u8),
+    /// 0, or 72 where something is dropped and not salvaged.
+    Kept(Drops),
+}
+
+pub fn read(roster: &[u8], checkpoint: &[u8], tally: &mut Tally) -> Result<(), String> {
+    let (_, fresh, _) = read_roster(roster)?;
+    let due = due(roster, &fresh, checkpoint);
+    for salvages in [false, true] {
+        let what = if salvages { "salvage" } else { "plain" };
+        let read = both::read(salvages, roster, checkpoint).map_err(|error| format!("{what}, {error}"))?;
+        tally.read(read.answer);
+        check(&read, &due, salvages, &fresh).map_err(|error| format!("{what}, both {}: {error}", read.answer))?;
+        if read.answer == 0 {
+            writing::again(&read.table, roster).map_err(|error| format!("{what}, read and written: {error}"))?;
+        }
+    }
+    if let Due::Kept(drops) = due {
+        let reasons = drops.calls.iter().chain(&drops.connections);
+        tally.salvaged += u64::from(reasons.clone().count() > 0);
+        reasons.for_each(|reason| tally.dropped(reason));
+    }
+    Ok(())
+}
+
+fn due(roster: &[u8], fresh: &Table, checkpoint: &[u8]) -> Due {
+    let answer = form::roster(roster);
+    if answer != 0 {
+        return Due::Refused(answer);
+    }
+    match Parts::of(checkpoint) {
+        None => Due::Refused(70),
+        Some(_) if checkpoint[0] >> 4 != 1 => Due::Refused(71),
+        Some(parts) => Due::Kept(expected_drops(&roster_of(fresh).records, &parts)),
+    }
+}
+
+/// Answer and counts are those due, and the table is one that may come with them.
+fn check(read: &Read, due: &Due, salvages: bool, fresh: &Table) -> Result<(), String> {
+    let (answer, dropped) = match due {
+        Due::Refused(answer) => (*answer, (0, 0)),
+        Due::Kept(drops) => match (drops.calls.len(), drops.connections.len()) {
+            (0, 0) => (0, (0, 0)),
+            dropped if salvages => (0, dropped),
+            _ => (72, (0, 0)),
+        },
+    };
+    if (read.answer, read.dropped) != (answer, dropped) {
+        return Err(format!("dropped {:?}; {answer} and {dropped:?} are due", read.dropped));
+    }
+    if answer != 0 {
+        return same_tables(&read.table, fresh);
+    }
+    if Node::from_table(&read.table).is_none() {
+        return Err("the table breaks a rule".into());
+    }
+    let mut emptied = read.table;
+    (emptied.occupied, emptied.calls) = (0, fresh.calls);
+    for (customer, record) in emptied.customers.iter_mut().zip(&fresh.customers) {
+        customer.places = record.places;
+    }
+    same_tables(&emptied, fresh).map_err(|what| format!("besides calls and connections, {what}"))
+}

@@ -1,0 +1,88 @@
+//! The values that one stream's messages are drawn from: few addresses, IDs and names, so that they meet often.
+
+use crate::build::Roster;
+use crate::random::Random;
+
+pub struct Values {
+    pub senders: Vec<u32>,
+    /// Addresses that are not listed.
+    pub unlisted: Vec<u32>,
+    pub endpoints: Vec<u32>,
+    pub ids: Vec<u16>,
+    pub names: Vec<Vec<u8>>,
+    pub tunnels: Vec<u16>,
+    pub extended: Vec<u32>,
+    pub lsps: Vec<u16>,
+}
+
+impl Values {
+    pub fn new(roster: &Roster, random: &mut Random) -> Values {
+        let senders: Vec<u32> = roster.records.iter().map(|record| record.address).collect();
+        let endpoints = endpoints(roster, &senders, random);
+        let count = *random.pick(&[3, 6, 40, 40, 40]);
+        let ids = ids(count, random);
+        Values {
+            unlisted: unlisted(&senders, &endpoints, random),
+            tunnels: vec![0, ids[0], ids[1]],
+            extended: vec![0, endpoints[0], senders[0]],
+            lsps: vec![0, ids[0], ids[2], 0x0100],
+            names: names(count, random),
+            senders,
+            endpoints,
+            ids,
+        }
+    }
+}
+
+/// Two to four end points; senders are among them, so that a pair and its swap both occur.
+fn endpoints(roster: &Roster, senders: &[u32], random: &mut Random) -> Vec<u32> {
+    let mut endpoints = vec![roster.address, *random.pick(senders), *random.pick(senders)];
+    if random.chance(1, 2) {
+        endpoints.push(*random.pick(&[0, 0x0a00_0063, u32::MAX]));
+    }
+    endpoints
+}
+
+/// Addresses next to listed ones, and others.
+fn unlisted(senders: &[u32], endpoints: &[u32], random: &mut Random) -> Vec<u32> {
+    let near = random.pick(senders) ^ 1 << random.below(32);
+    let mut unlisted = vec![near, 0, random.word()];
+    unlisted.extend(endpoints);
+    unlisted.retain(|address| !senders.contains(address));
+    unlisted.push(
+        (0..)
+            .find(|address| !senders.contains(address))
+            .expect("few are listed"),
+    );
+    unlisted
+}
+
+/// Nonzero IDs, the outermost and such with one byte zero among them.
+fn ids(count: usize, random: &mut Random) -> Vec<u16> {
+    let mut ids = vec![1, 0x0100, 0xffff];
+    while ids.len() < count {
+        let id = random.half();
+        if id != 0 && !ids.contains(&id) {
+            ids.push(id);
+        }
+    }
+    ids
+}
+
+/// Names of 1 to 32 bytes: ends of zero bytes, and long ones that differ in the last byte only.
+fn names(count: usize, random: &mut Random) -> Vec<Vec<u8>> {
+    let mut long = vec![b'n'; 32];
+    let mut names = vec![b"a".to_vec(), b"a\0".to_vec(), long.clone()];
+    long[31] = 0;
+    names.extend([long, b"\0".to_vec(), b"a\0\0b".to_vec()]);
+    random.shuffle(&mut names[2..]);
+    names.truncate(count);
+    while names.len() < count + count / 4 {
+        let size = random.between(1, 32);
+        let name = random.bytes(size);
+        if !names.contains(&name) {
+            names.push(name);
+        }
+    }
+    names
+}

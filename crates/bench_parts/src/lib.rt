@@ -1,0 +1,47 @@
+// Two parts of handling a message by themselves, for the benchmark: reading, and the rule check. Its static library
+// stands beside chaffmoor's; the node does not use it.
+ghost use mathlib.Core.Path.{_≡_};
+ghost use Rattle.table.specs.Rules.{rulesHold};
+ghost use Rattle.messages.specs.Read.{readOf};
+ghost use Rattle.bench_parts.specs.Number.{readNumber};
+use messages::read::Reading;
+use messages::read::read;
+use objects::fault::number;
+use rules::rules_hold;
+use table::state::Table;
+
+// The fault of form that the bytes alone show, 0 where there is none.
+fn read_number(r: Reading) -> u8
+    ensures { λ n. ⌜ n ≡ readNumber r ⌝ }
+{
+    match r {
+        Reading::Refused {
+            fault,
+            offset: _,
+            headers: _,
+        } => number(fault),
+        Reading::Unfit {
+            fault,
+            sender: _,
+            headers: _,
+        } => number(fault),
+        Reading::Read {
+            message: _,
+            headers: _,
+        } => 0,
+    }
+}
+
+#[no_mangle]
+pub extern "C" fn chaffmoor_part_read(message: &[u8]) -> u8
+    ensures { λ r. ⌜ r ≡ readNumber (readOf (now (message .entry))) ⌝ }
+{
+    read_number(read(message))
+}
+
+#[no_mangle]
+pub extern "C" fn chaffmoor_part_rules(table: Table) -> bool
+    ensures { λ r. ⌜ r ≡ rulesHold table ⌝ }
+{
+    rules_hold(table)
+}

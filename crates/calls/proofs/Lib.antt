@@ -1,8 +1,0 @@
-pub mod Decided
-pub mod Formed
-pub mod Agreement
-pub mod Step
-pub mod Demand3
-pub mod Named
-pub mod Handled
-pub mod Ruled

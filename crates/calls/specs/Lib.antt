@@ -1,6 +1,0 @@
-pub mod Form
-pub mod CallRules
-pub mod PathRules
-pub mod Handling
-pub mod Ledger
-pub mod Promises

@@ -1,0 +1,36 @@
+-- One record more: a call placed where step 2 keeps it and it fits, a connection added where it fits.
+-- Assumes nothing.
+use Prim.Native.Nat.{ℕ, _+_, _*_}
+use native.Mathlib.Numerals.{add-one}
+use mathlib.Core.Path.{_≡_, refl}
+use mathlib.Core.List.{List}
+use mathlib.Core.Bool.{Bool, cond, _&&_}
+use Rattle.table.specs.declared.state.Table.{Table}
+use Rattle.table.specs.Lists.{Held}
+use Rattle.spec_changes.specs.Connections.{added}
+use Rattle.spec_checkpoint.specs.declared.record.Slotted.{Slotted}
+use Rattle.spec_checkpoint.specs.Layout.{callRecord, heldAtByte}
+use Rattle.spec_checkpoint.specs.Salvage.{placed, keptByLongId, callFits, withCalls, connectionFits, withConnections}
+use Rattle.checkpoint_choice.specs.Sized.{Sized}
+
+-- ---- calls
+
+pub calls-turn : (fresh : Table) (s : List ℕ) (i : ℕ) (t u : Table) (b : Bool) (r : Slotted) → t ≡ withCalls fresh s i → b ≡ keptByLongId fresh s i → r ≡ callRecord s i
+    → u ≡ cond (b && callFits t r) (placed t r) t → u ≡ withCalls fresh s (i + 1)
+unfolding withCalls
+calls-turn fresh s i t u b r e h k q = rw (add-one i) (rw (e, h, k) at q)
+
+pub calls-none : (fresh : Table) (s : List ℕ) → fresh ≡ withCalls fresh s 0
+unfolding withCalls
+calls-none fresh s = refl
+
+-- ---- connections
+
+pub connections-turn : (start : Table) (s : List ℕ) (n m k : ℕ) (t u : Table) (x : Held) → Sized s n m → t ≡ withConnections start s k
+    → x ≡ heldAtByte s (4 + 55 * n + 18 * k) → u ≡ cond (connectionFits t x) (added t x) t → u ≡ withConnections start s (k + 1)
+unfolding withConnections
+connections-turn start s n m k t u x z e h q = rw (add-one k) (rw (e, h, z .calls) at q)
+
+pub connections-none : (start : Table) (s : List ℕ) → start ≡ withConnections start s 0
+unfolding withConnections
+connections-none start s = refl

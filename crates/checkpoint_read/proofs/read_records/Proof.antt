@@ -1,0 +1,48 @@
+-- `read_records` meets its contract: the callees' promises, one put into the other.
+use borrow.Author.Needs.{needs}
+use Rattle.checkpoint_read.proofs.Answered.{read-is}
+use Rattle.checkpoint_read.proofs.read_records.Statement.{statement}
+use Rattle.checkpoint_read.proofs.read_records.Tie as tie
+
+with-calls-requires : tie.Need-with-calls-requires
+with-calls-requires c κs = search needs
+
+with-connections-requires : tie.Need-with-connections-requires
+with-connections-requires c κs = search needs
+
+open-calls-requires : tie.Need-open-calls-requires
+open-calls-requires c κs = search needs
+
+cast-rest : tie.Need-cast-rest
+cast-rest c = search needs
+
+rest-requires : tie.Need-rest-requires
+rest-requires c κs = search needs
+
+connections-held-requires : tie.Need-connections-held-requires
+connections-held-requires c κs = search needs
+
+rest-requires-2 : tie.Need-rest-requires-2
+rest-requires-2 c κs = search needs
+
+returns : tie.Need-returns
+returns c =
+    let o = c .before .before .before in
+    let w = o .before in
+    let z = w .before .before .before in
+    let a = z .args in
+    read-is (a .fresh) (w .before .with-calls .result) (w .with-connections .result) (a .s .now) (a .calls) (a .connections) _ _ (z .pre) (w .before .with-calls .ensures) (w .with-connections .ensures)
+    (rw (o .open-calls .ensures) at (c .before .before .rest .ensures)) (rw (c .before .connections-held .ensures .0) at (c .rest2 .ensures))
+
+pub read-records-spec : {M : Type 1} → statement M
+read-records-spec =
+    tie.close
+    (tie.spec
+    with-calls-requires
+    with-connections-requires
+    open-calls-requires
+    cast-rest
+    rest-requires
+    connections-held-requires
+    rest-requires-2
+    returns)

@@ -1,3 +1,0 @@
-pub mod Grown
-pub mod Parts
-pub mod Copy

@@ -1,0 +1,4 @@
+pub mod Bytes
+pub mod Beside
+pub mod Looked
+pub mod Looks

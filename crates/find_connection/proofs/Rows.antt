@@ -1,0 +1,51 @@
+-- What a loop over slots or customers finds: after each turn it knows of one place more.
+-- Assumes nothing.
+use Prim.Native.Nat.{ℕ, _+_}
+use mathlib.Core.Path.{_≡_, sym, _∙_}
+use mathlib.Core.List.{List}
+use mathlib.Core.Bool.{Bool, false, cond, _||_}
+use Rattle.lists.specs.Count.{count, has}
+use Rattle.lists.specs.Below.{listIf, below, placeOf}
+use Rattle.lists.proofs.Count.{has-append}
+use Rattle.lists.proofs.Below.{below-more, count-none, count-turns, has-none, has-turns, has-list-if}
+use Rattle.lists.proofs.Search.{place-none, place-turn}
+use Rattle.table.specs.Lists.{Held}
+use Rattle.table.specs.Rules.{sameLsp}
+use Rattle.spec_changes.specs.Connections.{sameFour}
+use Rattle.spec_calls.specs.PathRules.{underOther}
+use Rattle.find_connection.proofs.Match.{Matched}
+
+module _ {A : Type 0} (f : ℕ → List A) (p : A → Bool) where
+  -- whether the first n places have one that passes, and the first of them that has
+  pub record Sought (n : ℕ) (found : Bool) (at : ℕ) : Type 0 where
+    pub has : found ≡ has p (below f n)
+    pub place : at ≡ placeOf f p n
+
+  pub sought-none : Sought 0 false 0
+  sought-none = record { has = sym (has-none f p); place = sym (place-none f p) }
+
+  pub sought-turn : {n at here then : ℕ} {found : Bool} (s : Bool) → Sought n found at → s ≡ has p (f n) → here ≡ cond s n 0 → then ≡ cond found at here
+      → Sought (n + 1) (found || s) then
+  sought-turn {n} {at} {here} {then} {found} s k e h t = record {
+    has = rw (below-more f n, has-append p (below f n) (f n), k .has, e);
+    place = rw (t, h) (place-turn f p n at found s (k .has) (k .place) e);
+  }
+
+module _ (f : ℕ → List Held) (x : Held) where
+  -- whether the first n lists have a connection under another Call ID, whether they have it and where, and how many of
+  -- its four they have
+  pub record Looked (n : ℕ) (o h : Bool) (at m : ℕ) : Type 0 where
+    pub other : o ≡ has (underOther x) (below f n)
+    pub held : Sought f (sameLsp x) n h at
+    pub four : m ≡ count (sameFour x) (below f n)
+
+  pub looked-none : Looked 0 false false 0 0
+  looked-none = record { other = sym (has-none f (underOther x)); held = sought-none f (sameLsp x); four = sym (count-none f (sameFour x)) }
+
+  pub looked-turn : {n at four here then m : ℕ} {other held o h : Bool} (used : Bool) (l : List Held) → f n ≡ listIf used l → Looked n other held at four
+      → Matched used x l o h m → here ≡ cond h n 0 → then ≡ cond held at here → Looked (n + 1) (other || o) (held || h) then (four + m)
+  looked-turn {n} {at} {four} {here} {then} {m} {other} {held} {o} {h} used l e k t g d = record {
+    other = has-turns f (underOther x) n other o used l e (k .other) (t .0);
+    held = sought-turn f (sameLsp x) h (k .held) (rw e (t .1 ∙ sym (has-list-if (sameLsp x) used l))) g d;
+    four = count-turns f (sameFour x) n four m used l e (k .four) (t .2);
+  }

@@ -1,0 +1,31 @@
+-- What the look-up of a connection finds: the tests of Path and PathTear, and where the connection and its call stand,
+-- in the rules' own words.
+use Rattle.lists.specs.Count.{count, has}
+use Rattle.lists.specs.Below.{below, placeOf}
+use Rattle.table.specs.declared.state.Table.{Table}
+use Rattle.table.specs.Total.{totalOf}
+use Rattle.table.specs.Lists.{entries, Held, heldAt, standaloneAt}
+use Rattle.table.specs.Rules.{sameLsp}
+use Rattle.spec_changes.specs.Calls.{slotOf}
+use Rattle.spec_changes.specs.Connections.{sameFour, isCallOf}
+use Rattle.spec_calls.specs.PathRules.{underOther}
+use Rattle.find_connection.specs.declared.under.UnderLook.{UnderLook}
+use Rattle.find_connection.specs.declared.standalone.StandaloneLook.{StandaloneLook}
+
+unfoldable pub underLookOf : Table → Held → UnderLook
+underLookOf t x = record {
+  other = has (underOther x) (below (heldAt t) (totalOf t));
+  held = has (sameLsp x) (below (heldAt t) (totalOf t));
+  at = placeOf (heldAt t) (sameLsp x) (totalOf t);
+  four = count (sameFour x) (below (heldAt t) (totalOf t));
+  known = has (isCallOf x) (entries t);
+  slot = slotOf t (isCallOf x);
+}
+
+unfoldable pub standaloneLookOf : Table → Held → StandaloneLook
+standaloneLookOf t x = record {
+  other = has (underOther x) (below (standaloneAt t) 8);
+  held = has (sameLsp x) (below (standaloneAt t) 8);
+  at = placeOf (standaloneAt t) (sameLsp x) 8;
+  four = count (sameFour x) (below (standaloneAt t) 8);
+}

@@ -1,0 +1,78 @@
+-- What handling comes to, by the test that decides: the table's rules, the form, or the message's kind.
+-- Assumes nothing.
+use Prim.Native.Nat.{ℕ, _≤_, _<_}
+use mathlib.Core.Path.{_≡_, refl}
+use mathlib.Core.List.{List, []}
+use mathlib.Core.Bool.{true, false}
+use lib.ListN.{length}
+use borrow.Author.Tests.{lt-ltb, le-ltb}
+use Rattle.numbers.specs.Buffer.{atFront}
+use Rattle.objects.specs.declared.fault.Fault.{Fault}
+use Rattle.messages.specs.declared.message.Message.{Message}
+use Rattle.messages.specs.declared.message.Message.the-variants.{Open, Close, Add, Drop}
+use Rattle.messages.specs.declared.read.Reading.the-variants.{Refused, Unfit, Read}
+use Rattle.messages.specs.Read.{readOf}
+use Rattle.table.specs.declared.state.Table.{Table}
+use Rattle.table.specs.Lists.{Terms, roster}
+use Rattle.table.specs.Share.{listed}
+use Rattle.table.specs.Rules.{rulesHold}
+use Rattle.answers.specs.declared.answer.Answer.{Answer}
+use Rattle.answers.specs.declared.answer.Answer.the-variants.{TableBroken, BufferTooSmall, Malformed, SenderNotListed}
+use Rattle.spec_calls.specs.Form.{Form, faulty, sound, senderOf, listedOr11, leastBuffer, formOf}
+use Rattle.spec_calls.specs.Handling.{answerOf, formTable, tableAfter, formReply, replyAfter, handled}
+use Rattle.outcomes.specs.Outcomes.{left, ruled}
+
+-- 1 changes nothing, whatever the message is
+broken-table : (t : Table) (s : List ℕ) (f : Form) → formTable t s f TableBroken ≡ t
+broken-table t s (faulty a) = refl
+broken-table t s (sound (Open q)) = refl
+broken-table t s (sound (Close q)) = refl
+broken-table t s (sound (Add c)) = refl
+broken-table t s (sound (Drop c)) = refl
+
+broken-reply : (t : Table) (s : List ℕ) (f : Form) → formReply t s f TableBroken ≡ []
+broken-reply t s (faulty a) = refl
+broken-reply t s (sound (Open q)) = refl
+broken-reply t s (sound (Close q)) = refl
+broken-reply t s (sound (Add c)) = refl
+broken-reply t s (sound (Drop c)) = refl
+
+module _ (t : Table) (s buffer : List ℕ) where
+  pub handled-broken : rulesHold t ≡ false → handled t s buffer ≡ left t buffer TableBroken
+  unfolding answerOf tableAfter replyAfter atFront
+  handled-broken h = rw (h, broken-table t s (formOf (roster t) s (length buffer)), broken-reply t s (formOf (roster t) s (length buffer)))
+
+  pub handled-faulty : (a : Answer) → rulesHold t ≡ true → formOf (roster t) s (length buffer) ≡ faulty a → handled t s buffer ≡ left t buffer a
+  unfolding answerOf tableAfter replyAfter atFront
+  handled-faulty a h e = rw (h, e)
+
+  pub handled-sound : (m : Message) → rulesHold t ≡ true → formOf (roster t) s (length buffer) ≡ sound m → handled t s buffer ≡ ruled t s buffer m
+  unfolding answerOf tableAfter replyAfter
+  handled-sound m h e = rw (h, e)
+
+-- ---- the form, by what the message is read as
+
+pub form-small : (r : List Terms) (s : List ℕ) (room : ℕ) → room < leastBuffer → formOf r s room ≡ faulty BufferTooSmall
+unfolding formOf
+form-small r s room h = rw (lt-ltb room leastBuffer h)
+
+module _ (r : List Terms) (s : List ℕ) (room : ℕ) (h : leastBuffer ≤ room) where
+  pub form-refused : (fault : Fault) (offset headers : ℕ) → readOf s ≡ Refused fault offset headers → formOf r s room ≡ faulty (Malformed fault)
+  unfolding formOf
+  form-refused fault offset headers e = rw (le-ltb room leastBuffer h, e)
+
+  pub form-unfit : (fault : Fault) (sender headers : ℕ) → readOf s ≡ Unfit fault sender headers → listed r sender ≡ true → formOf r s room ≡ faulty (Malformed fault)
+  unfolding formOf listedOr11
+  form-unfit fault sender headers e k = rw (le-ltb room leastBuffer h, e, k)
+
+  pub form-unfit-unlisted : (fault : Fault) (sender headers : ℕ) → readOf s ≡ Unfit fault sender headers → listed r sender ≡ false → formOf r s room ≡ faulty SenderNotListed
+  unfolding formOf listedOr11
+  form-unfit-unlisted fault sender headers e k = rw (le-ltb room leastBuffer h, e, k)
+
+  pub form-sound : (m : Message) (headers : ℕ) → readOf s ≡ Read m headers → listed r (senderOf m) ≡ true → formOf r s room ≡ sound m
+  unfolding formOf listedOr11
+  form-sound m headers e k = rw (le-ltb room leastBuffer h, e, k)
+
+  pub form-unlisted : (m : Message) (headers : ℕ) → readOf s ≡ Read m headers → listed r (senderOf m) ≡ false → formOf r s room ≡ faulty SenderNotListed
+  unfolding formOf listedOr11
+  form-unlisted m headers e k = rw (le-ltb room leastBuffer h, e, k)

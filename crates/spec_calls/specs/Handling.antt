@@ -1,0 +1,130 @@
+-- What handling a message means: from table, message and reply buffer, whatever they hold, to answer, table and buffer
+-- afterwards. The answer is decided first; table and reply follow from it.
+use Prim.Native.Nat.{ℕ, _+_}
+use mathlib.Core.List.{List, []}
+use mathlib.Core.Bool.{cond, not}
+use lib.ListN.{length}
+use Rattle.numbers.specs.Buffer.{atFront}
+use Rattle.objects.specs.declared.fields.MessageId.{MessageId}
+use Rattle.messages.specs.declared.message.CallRequest.{CallRequest}
+use Rattle.messages.specs.declared.message.Connection.{Connection}
+use Rattle.messages.specs.declared.message.Message.{Message}
+use Rattle.messages.specs.declared.message.Message.the-variants.{Open, Close, Add, Drop}
+use Rattle.messages.specs.Status.{callBit, deleteBit}
+use Rattle.replies.specs.declared.notify.Notify.{Notify}
+use Rattle.replies.specs.declared.path_err.PathErr.{PathErr}
+use Rattle.reply_objects.specs.declared.writers.ErrorSpec.{ErrorSpec}
+use Rattle.replies.specs.Messages.{notifyBytes, pathErrBytes}
+use Rattle.table.specs.declared.state.Table.{Table}
+use Rattle.table.specs.Total.{totalOf}
+use Rattle.table.specs.Lists.{roster, entries, held}
+use Rattle.table.specs.Rules.{rulesHold}
+use Rattle.spec_changes.specs.Calls.{opened, closed, identifierTaken}
+use Rattle.spec_changes.specs.Connections.{added, removed}
+use Rattle.answers.specs.declared.answer.Answer.{Answer}
+use Rattle.answers.specs.declared.answer.Answer.the-variants.{TableBroken}
+use Rattle.answers.specs.Answers.{is, errorCode, errorValue, sendsNotify, sendsPathErr}
+use Rattle.spec_calls.specs.Form.{Form, faulty, sound, formOf}
+use Rattle.spec_calls.specs.CallRules.{idsIn, openAnswer, closeAnswer}
+use Rattle.spec_calls.specs.PathRules.{heldBy, addAnswer, dropAnswer}
+
+-- ---- the answer
+
+-- a message of no fault, by its kind
+abbrev pub ruleAnswer : Table → List ℕ → Message → Answer
+ruleAnswer t s (Open q) = openAnswer (totalOf t) (roster t) (entries t) (idsIn s q)
+ruleAnswer t s (Close q) = closeAnswer (entries t) (held t) (idsIn s q)
+ruleAnswer t s (Add c) = addAnswer (entries t) (held t) (heldBy c)
+ruleAnswer t s (Drop c) = dropAnswer (held t) (heldBy c)
+
+abbrev pub formAnswer : Table → List ℕ → Form → Answer
+formAnswer t s (faulty a) = a
+formAnswer t s (sound m) = ruleAnswer t s m
+
+-- tests 2 to 13, then the rules
+abbrev pub answerFrom2 : Table → List ℕ → ℕ → Answer
+answerFrom2 t s room = formAnswer t s (formOf (roster t) s room)
+
+-- 1 comes before all
+unfoldable pub answerOf : Table → List ℕ → ℕ → Answer
+answerOf t s room = cond (not (rulesHold t)) TableBroken (answerFrom2 t s room)
+
+-- ---- the table afterwards
+
+-- 20, 22, 23 and 25 change calls or connections, and no other answer does
+abbrev pub changedBy : Table → List ℕ → Message → Answer → Table
+changedBy t s (Open q) a = cond (is 20 a) (opened t (idsIn s q)) t
+changedBy t s (Close q) a = cond (is 22 a) (closed t (idsIn s q)) t
+changedBy t s (Add c) a = cond (is 23 a) (added t (heldBy c)) t
+changedBy t s (Drop c) a = cond (is 25 a) (removed t (heldBy c)) t
+
+-- the next own identifier moves with every Notify sent
+abbrev pub identified : Answer → Table → Table
+identified a t = cond (sendsNotify a) (identifierTaken t) t
+
+abbrev pub formTable : Table → List ℕ → Form → Answer → Table
+formTable t s (faulty _) a = t
+formTable t s (sound m) a = identified a (changedBy t s m a)
+
+unfoldable pub tableAfter : Table → List ℕ → ℕ → Answer → Table
+tableAfter t s room a = formTable t s (formOf (roster t) s room) a
+
+-- ---- the reply (01, Reply bytes)
+
+-- an answer's error, by the node of that address
+abbrev pub errorFor : ℕ → Answer → ErrorSpec
+errorFor node a = record { node = node; code = errorCode a; value = errorValue a }
+
+-- the node's own epoch and next identifier
+abbrev pub ownId : Table → MessageId
+ownId t = record { epoch = t .epoch; identifier = t .next }
+
+abbrev pub notifyFor : ℕ → MessageId → CallRequest → ℕ → Answer → Notify
+notifyFor node own q status a = record {
+  acknowledged = q .id;
+  own = own;
+  error = errorFor node a;
+  session = q .session;
+  status = status;
+  attribute = q .attribute;
+  template = q .template;
+}
+
+abbrev pub pathErrFor : ℕ → Connection → Answer → PathErr
+pathErrFor node c a = record { session = c .session; error = errorFor node a; template = c .template }
+
+-- C for an open, C and D for a close
+abbrev pub replyTo : Table → List ℕ → Message → Answer → List ℕ
+replyTo t s (Open q) a = cond (sendsNotify a) (notifyBytes s (notifyFor (t .address) (ownId t) q callBit a)) []
+replyTo t s (Close q) a = cond (sendsNotify a) (notifyBytes s (notifyFor (t .address) (ownId t) q (callBit + deleteBit) a)) []
+replyTo t s (Add c) a = cond (sendsPathErr a) (pathErrBytes s (pathErrFor (t .address) c a)) []
+replyTo t s (Drop c) a = []
+
+abbrev pub formReply : Table → List ℕ → Form → Answer → List ℕ
+formReply t s (faulty _) a = []
+formReply t s (sound m) a = replyTo t s m a
+
+-- no bytes where nothing is sent
+unfoldable pub replyAfter : Table → List ℕ → ℕ → Answer → List ℕ
+replyAfter t s room a = formReply t s (formOf (roster t) s room) a
+
+-- ---- the whole
+
+-- what the caller gets back: the answer, the reply's length, 0 where none is sent, the table and the buffer
+pub record Handled : Type 0 where
+  pub answer : Answer
+  pub length : ℕ
+  pub table : Table
+  pub buffer : List ℕ
+
+-- the buffer holds the complete reply and behind it its old bytes, or exactly its old bytes
+abbrev pub handledAs : Table → List ℕ → List ℕ → Answer → Handled
+handledAs t s buffer a = record {
+  answer = a;
+  length = length (replyAfter t s (length buffer) a);
+  table = tableAfter t s (length buffer) a;
+  buffer = atFront (replyAfter t s (length buffer) a) buffer;
+}
+
+abbrev pub handled : Table → List ℕ → List ℕ → Handled
+handled t s buffer = handledAs t s buffer (answerOf t s (length buffer))

@@ -1,0 +1,4 @@
+pub mod Form
+pub mod CallRules
+pub mod PathRules
+pub mod Handling

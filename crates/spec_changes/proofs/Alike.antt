@@ -1,0 +1,67 @@
+-- Tests of sameness: each finds a call or a connection the same as itself, and two that are the same are so to every
+-- third.
+-- Assumes nothing.
+use Prim.Native.Nat.{ℕ}
+use mathlib.Core.Path.{_≡_, refl}
+use mathlib.Core.List.{List, [], _∷_}
+use mathlib.Core.Bool.{true}
+use lib.Dec.{eqb}
+use borrow.Author.Tests.{eqb-true, eq-eqb}
+use Rattle.lists.proofs.Tests.{both}
+use Rattle.table.specs.Lists.{Ids, Held}
+use Rattle.table.specs.Rules.{sameBytes, samePair, sameShort, sameLong, sameLsp}
+use Rattle.table.proofs.SameBytes.{same-bytes}
+
+-- ---- to itself
+
+pub self : (a : ℕ) → eqb a a ≡ true
+self a = eq-eqb a a refl
+
+bytes-self : (x : List ℕ) → sameBytes x x ≡ true
+unfolding sameBytes
+bytes-self [] = refl
+bytes-self (a ∷ x) = rw (self a, bytes-self x)
+
+pub short-self : (c : Ids) → sameShort c c ≡ true
+unfolding sameShort
+short-self c = rw (self (c .endpoint), self (c .sender), self (c .short))
+
+pub long-self : (c : Ids) → sameLong c c ≡ true
+unfolding sameLong
+long-self c = rw (self (c .endpoint), self (c .sender), bytes-self (c .long))
+
+pub lsp-self : (x : Held) → sameLsp x x ≡ true
+unfolding sameLsp
+lsp-self x = rw (self (x .lsp .endpoint), self (x .lsp .sender), self (x .lsp .tunnel), self (x .lsp .extended), self (x .lsp .lspId))
+
+-- ---- to every third
+
+-- a test of one call is that of another where they are the same in what it looks at
+pub short-alike : (c d x : Ids) → sameShort c d ≡ true → sameShort c x ≡ sameShort d x
+unfolding sameShort
+short-alike c d x h =
+    let k = both (samePair c d) (eqb (c .short) (d .short)) h in
+    let m = both (eqb (c .endpoint) (d .endpoint)) (eqb (c .sender) (d .sender)) (k .0) in
+    rw (eqb-true (c .endpoint) (d .endpoint) (m .0), eqb-true (c .sender) (d .sender) (m .1), eqb-true (c .short) (d .short) (k .1))
+
+pub long-alike : (c d x : Ids) → sameLong c d ≡ true → sameLong c x ≡ sameLong d x
+unfolding sameLong
+long-alike c d x h =
+    let k = both (samePair c d) (sameBytes (c .long) (d .long)) h in
+    let m = both (eqb (c .endpoint) (d .endpoint)) (eqb (c .sender) (d .sender)) (k .0) in
+    rw (eqb-true (c .endpoint) (d .endpoint) (m .0), eqb-true (c .sender) (d .sender) (m .1), same-bytes (c .long) (d .long) (k .1))
+
+pub lsp-alike : (x y z : Held) → sameLsp x y ≡ true → sameLsp x z ≡ sameLsp y z
+unfolding sameLsp
+lsp-alike x y z h =
+    let a = both _ (eqb (x .lsp .lspId) (y .lsp .lspId)) h in
+    let b = both _ (eqb (x .lsp .extended) (y .lsp .extended)) (a .0) in
+    let c = both _ (eqb (x .lsp .tunnel) (y .lsp .tunnel)) (b .0) in
+    let d = both _ (eqb (x .lsp .sender) (y .lsp .sender)) (c .0) in
+    rw (
+      eqb-true (x .lsp .endpoint) (y .lsp .endpoint) (d .0),
+      eqb-true (x .lsp .sender) (y .lsp .sender) (d .1),
+      eqb-true (x .lsp .tunnel) (y .lsp .tunnel) (c .1),
+      eqb-true (x .lsp .extended) (y .lsp .extended) (b .1),
+      eqb-true (x .lsp .lspId) (y .lsp .lspId) (a .1),
+    )

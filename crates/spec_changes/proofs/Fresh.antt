@@ -1,0 +1,37 @@
+-- The table of a roster's bytes has the shape that its types say.
+-- Assumes nothing.
+use Prim.Native.Nat.{ℕ}
+use native.Mathlib.Omega.{arith}
+use mathlib.Core.Path.{_≡_, refl}
+use mathlib.Core.List.{List}
+use mathlib.Core.Bool.{Bool, true, false, cond}
+use lib.Dec.{ltb}
+use lib.ListN.{length, length-replicate, getD-replicate}
+use Rattle.lists.proofs.Below.{length-each, getD-each}
+use Rattle.table.specs.declared.state.Customer.{Customer}
+use Rattle.table.specs.Total.{total}
+use Rattle.table.specs.Zeros.{noCall, noCustomer, pastCall, pastCustomer}
+use Rattle.table.specs.Roster.{customersIn, customerIn, customersFrom, freshTable}
+use Rattle.spec_changes.specs.Shape.{Shape}
+
+-- a record of the roster, or an unused one behind it
+abbrev recordAt : List ℕ → ℕ → Customer
+recordAt s k = cond (ltb k (customersIn s)) (customerIn s k) noCustomer
+
+four-places : (s : List ℕ) (k : ℕ) → length (recordAt s k .places) ≡ 4
+unfolding noCustomer
+four-places s k = by (ltb k (customersIn s))
+  where
+    by : (b : Bool) → length (cond b (customerIn s k) noCustomer .places) ≡ 4
+    by true = refl
+    by false = refl
+
+pub fresh-shape : (s : List ℕ) → Shape (freshTable s)
+unfolding freshTable customersFrom noCall
+fresh-shape s = record {
+  calls = omega (arith, length-replicate total noCall);
+  customers = length-each (recordAt s) 8;
+  word = omega arith;
+  places = λ i h. rw (getD-replicate total i noCall pastCall h);
+  standalonePlaces = λ k h. rw (getD-each (recordAt s) 8 k pastCustomer h) (four-places s k);
+}

@@ -1,0 +1,112 @@
+-- The table rules as bounds on counts: what every change keeps.
+-- Assumes nothing.
+use Prim.Native.Nat.{ℕ, suc, _+_, _≤_, _<_}
+use native.Mathlib.Omega.{arith}
+use mathlib.Core.Path.{_≡_, refl}
+use mathlib.Core.Logic.{_⊎_, inl, inr, _≢_}
+use mathlib.Core.List.{List, _∷_}
+use mathlib.Core.Bool.{Bool, true, false}
+use lib.Dec.{eqb}
+use lib.ListN.{length}
+use borrow.Author.Tests.{eqb-true}
+use Rattle.lists.specs.Count.{bit, count}
+use Rattle.lists.proofs.Count.{has-true, count-ext}
+use Rattle.table.specs.declared.state.Table.{Table}
+use Rattle.table.specs.Total.{totalOf}
+use Rattle.table.specs.Word.{isUsed}
+use Rattle.table.specs.Lists.{Terms, roster, Ids, Entry, callAt, entries, Held, held}
+use Rattle.table.specs.Share.{isAt, listed, guaranteeOf, limitOf, from, callsOf, S}
+use Rattle.table.specs.Rules.{badShare, guarantees, rosterHolds, unlisted, sameShort, sameLong, validIds, sameLsp, slotFreeClear, recordFreeClear}
+use Rattle.spec_changes.proofs.Alike.{short-alike, long-alike}
+use Rattle.spec_changes.proofs.Share.{S-mono, S-same, S-open, calls-within, calls-below}
+
+-- an acceptable roster
+pub record RosterKept (total : ℕ) (r : List Terms) : Type 0 where
+  pub shares : count (badShare total) r ≡ 0
+  pub apart : (a : ℕ) → count (isAt a) r ≤ 1
+  pub sum : guarantees r ≤ total
+
+-- the rules on the open calls
+pub record CallsKept (total : ℕ) (r : List Terms) (l : List Entry) : Type 0 where
+  pub senders : count (unlisted r) l ≡ 0
+  pub limits : (a : ℕ) → listed r a ≡ true → callsOf l a ≤ limitOf r a
+  pub room : S r l ≤ total
+  pub shorts : (c : Ids) → count (λ e. sameShort c (e .ids)) l ≤ 1
+  pub longs : (c : Ids) → count (λ e. sameLong c (e .ids)) l ≤ 1
+
+-- all rules on a table
+pub record Kept (t : Table) : Type 0 where
+  pub accepted : rosterHolds t ≡ true
+  pub calls : CallsKept (totalOf t) (roster t) (entries t)
+  pub once : (x : Held) → count (sameLsp x) (held t) ≤ 1
+  pub names : (i : ℕ) → i < totalOf t → isUsed (t .occupied) i ≡ true → validIds (callAt t i) ≡ true
+  pub slots : (i : ℕ) → i < totalOf t → slotFreeClear t i ≡ true
+  pub records : (k : ℕ) → k < 8 → recordFreeClear t k ≡ true
+
+-- fewer calls keep the rules, and so do the same calls in another order
+pub calls-fewer : (total : ℕ) (r : List Terms) (l k : List Entry) → ((p : Entry → Bool) → count p l ≤ count p k) → CallsKept total r k → CallsKept total r l
+calls-fewer total r l k f i = record {
+  senders = omega (arith, f (unlisted r), i .senders);
+  limits = λ a h. omega (arith, f (from a), i .limits a h);
+  room = omega (arith, S-mono r l k f, i .room);
+  shorts = λ c. omega (arith, f (λ e. sameShort c (e .ids)), i .shorts c);
+  longs = λ c. omega (arith, f (λ e. sameLong c (e .ids)), i .longs c);
+}
+
+-- what an opening needs
+pub record MayOpen (total : ℕ) (r : List Terms) (l : List Entry) (c : Ids) : Type 0 where
+  pub known : listed r (c .sender) ≡ true
+  pub newShort : count (λ e. sameShort c (e .ids)) l ≡ 0
+  pub newLong : count (λ e. sameLong c (e .ids)) l ≡ 0
+  pub under : callsOf l (c .sender) ≢ limitOf r (c .sender)
+  pub share : (callsOf l (c .sender) < guaranteeOf r (c .sender)) ⊎ (S r l ≢ total)
+
+-- ---- one call more: k is l with e
+
+module _ (total : ℕ) (r : List Terms) (l : List Entry) (c : Ids) (i : CallsKept total r l) (m : MayOpen total r l c) where
+  -- S leaves room for one more
+  pub room-for : length l < total
+  room-for = by (m .share)
+    where
+      by : (callsOf l (c .sender) < guaranteeOf r (c .sender)) ⊎ (S r l ≢ total) → length l < total
+      by (inl h) = omega (arith, calls-below r l (c .sender) (i .senders) h, i .room)
+      by (inr h) = omega (arith, calls-within r l (i .senders), i .room)
+
+  open-limits : (a : ℕ) → listed r a ≡ true → bit (eqb (c .sender) a) + callsOf l a ≤ limitOf r a
+  open-limits a h = by (eqb (c .sender) a) refl
+    where
+      by : (b : Bool) → eqb (c .sender) a ≡ b → bit b + callsOf l a ≤ limitOf r a
+      by true q =
+          let same : c .sender ≡ a = eqb-true _ _ q in
+          let u : callsOf l a ≢ limitOf r a = rw same at (m .under) in
+          omega (arith, i .limits a h)
+      by false q = omega (arith, i .limits a h)
+
+  open-room : (slot : ℕ) → ((a : ℕ) → count (isAt a) r ≤ 1) → S r (record { slot = slot; ids = c } ∷ l) ≤ total
+  open-room slot d = by (S-open r l (record { slot = slot; ids = c }) d (has-true _ r (m .known))) (m .share)
+    where
+      by : (S r (record { slot = slot; ids = c } ∷ l) ≤ suc (S r l))
+          × (callsOf l (c .sender) < guaranteeOf r (c .sender) → S r (record { slot = slot; ids = c } ∷ l) ≡ S r l)
+          → (callsOf l (c .sender) < guaranteeOf r (c .sender)) ⊎ (S r l ≢ total) → S r (record { slot = slot; ids = c } ∷ l) ≤ total
+      by u (inl h) = omega (arith, u .1 h, i .room)
+      by u (inr h) = omega (arith, u .0, i .room)
+
+  -- a test that is another's where it meets the new call
+  open-once : (p q : Entry → Bool) (e : Entry) → count q l ≡ 0 → count p l ≤ 1 → (p e ≡ true → (x : Entry) → p x ≡ q x) → bit (p e) + count p l ≤ 1
+  open-once p q e h k f = by (p e) f
+    where
+      by : (b : Bool) → (b ≡ true → (x : Entry) → p x ≡ q x) → bit b + count p l ≤ 1
+      by true f = omega (arith, count-ext p q l (f refl))
+      by false f = omega arith
+
+  pub calls-open : (slot : ℕ) (k : List Entry) → ((a : ℕ) → count (isAt a) r ≤ 1)
+      → ((p : Entry → Bool) → count p k ≡ bit (p (record { slot = slot; ids = c })) + count p l) → CallsKept total r k
+  calls-open slot k d f = record {
+    senders = rw (f (unlisted r), m .known) (omega (arith, i .senders));
+    limits = λ a h. rw (f (from a)) (open-limits a h);
+    room = omega (arith, open-room slot d, S-same r k (record { slot = slot; ids = c } ∷ l) f);
+    shorts = λ b. rw (f (λ e. sameShort b (e .ids)))
+        (open-once (λ e. sameShort b (e .ids)) (λ e. sameShort c (e .ids)) (record { slot = slot; ids = c }) (m .newShort) (i .shorts b) (λ h x. short-alike b c (x .ids) h));
+    longs = λ b. rw (f (λ e. sameLong b (e .ids)))
+        (open-once (λ e. sameLong b (e .ids)) (λ e. sameLong c (e .ids)) (record { slot = slot; ids = c }) (m .newLong) (i .longs b) (λ h x. long-alike b c (x .ids) h));
+  }

@@ -1,0 +1,16 @@
+pub mod Alike
+pub mod Share
+pub mod Kept
+pub mod Told
+pub mod Fresh
+pub mod CallMissing
+pub mod Slot
+pub mod Opened
+pub mod Closed
+pub mod Places
+pub mod Connections
+pub mod Standalone
+pub mod Under
+pub mod Added
+pub mod Removed
+pub mod Tables

@@ -1,0 +1,113 @@
+-- The slots hold one call each. What a change of one slot does: to the call read there, to the counts over the open
+-- calls and the connections, to the rules on slots and to the shape.
+-- Assumes nothing.
+use Prim.Native.Nat.{ℕ, zero, suc, _+_, _^_, _≤_, _<_}
+use native.Mathlib.Omega.{arith}
+use mathlib.Core.Path.{_≡_, refl, sym, ap, _∙_}
+use mathlib.Core.Bool.{Bool, true, false, cond, _&&_}
+use lib.Dec.{eqb}
+use lib.ListN.{length, length-append, length-set}
+use lib.Seq.{getD-set-same, getD-set-other}
+use borrow.Author.Tests.{eqb-true, eqb-false}
+use Rattle.lists.specs.Count.{bit, count}
+use Rattle.lists.specs.Below.{when, below}
+use Rattle.lists.proofs.Tests.{both}
+use Rattle.lists.proofs.Count.{count-append}
+use Rattle.lists.proofs.Below.{count-when, count-list-if, has-when, below-one}
+use Rattle.lists.proofs.Search.{place-found}
+use Rattle.table.specs.declared.state.Call.{Call}
+use Rattle.table.specs.declared.state.Table.{Table}
+use Rattle.table.specs.Total.{totalOf}
+use Rattle.table.specs.Word.{isUsed}
+use Rattle.table.specs.Zeros.{pastCall}
+use Rattle.table.specs.Lists.{Entry, callAt, idsOf, openAt, entries, Held, heldIn, heldAt, standaloneAt, held}
+use Rattle.table.specs.Rules.{validIds, callFreeClear, callClear, slotFreeClear}
+use Rattle.spec_changes.specs.Shape.{Shape}
+use Rattle.spec_changes.specs.Calls.{withSlot, slotOf}
+
+when-most {ℓ} : {A : Type ℓ} (b : Bool) (x : A) → length (when b x) ≤ 1
+unfolding when
+when-most true x = omega arith
+when-most false x = omega arith
+
+-- at most as many calls are open as there are slots
+pub open-most : (t : Table) → length (entries t) ≤ totalOf t
+unfolding below
+open-most t = first (totalOf t)
+  where
+    first : (n : ℕ) → length (below (openAt t) n) ≤ n
+    first zero = omega arith
+    first (suc n) =
+        omega (arith, length-append (below (openAt t) n) (openAt t n), first n, when-most {A = Entry} (isUsed (t .occupied) n) (record { slot = n; ids = idsOf (callAt t n) }))
+
+-- where an open call passes a test, the slot found is used by one that does
+pub found-slot : (t : Table) (p : Entry → Bool) → 0 < count p (entries t)
+    → (slotOf t p < totalOf t) × (isUsed (t .occupied) (slotOf t p) ≡ true)
+    × (p (record { slot = slotOf t p; ids = idsOf (callAt t (slotOf t p)) }) ≡ true)
+found-slot t p h =
+    let k = slotOf t p in
+    let f = place-found (openAt t) p (totalOf t) h in
+    let e : Entry = record { slot = k; ids = idsOf (callAt t k) } in
+    let u = both (isUsed (t .occupied) k) (p e) (sym (has-when p (isUsed (t .occupied) k) e) ∙ f .passes) in
+    (f .inside, u .0, u .1)
+
+module _ (t : Table) (word i : ℕ) (c : Call) (inside : i < totalOf t) (long : totalOf t ≤ length (t .calls)) where
+  pub call-here : callAt (withSlot t word i c) i ≡ c
+  call-here = getD-set-same (t .calls) i c pastCall (omega arith)
+
+  pub call-other : (j : ℕ) → (j ≡ i → ⊥) → callAt (withSlot t word i c) j ≡ callAt t j
+  call-other j n = getD-set-other (t .calls) i j c pastCall n
+
+  -- what holds of the call put in and of the other slots' calls holds of every slot's
+  by-slot : (q : ℕ → Call → Type 0) → q i c → ((j : ℕ) → j < totalOf t → (j ≡ i → ⊥) → q j (callAt t j))
+      → (j : ℕ) → j < totalOf t → q j (callAt (withSlot t word i c) j)
+  by-slot q h o j l = by (eqb j i) refl
+    where
+      by : (b : Bool) → eqb j i ≡ b → q j (callAt (withSlot t word i c) j)
+      by true e = rw (eqb-true j i e, call-here) h
+      by false e = rw (call-other j (eqb-false j i e)) (o j l (eqb-false j i e))
+
+  pub slot-shape : Shape t → word < 2 ^ 64 → length (c .places) ≡ 4 → Shape (withSlot t word i c)
+  slot-shape s w p = record {
+    calls = simp length-set (s .calls);
+    customers = s .customers;
+    word = w;
+    places = by-slot (λ j d. length (d .places) ≡ 4) p (λ j l n. s .places j l);
+    standalonePlaces = s .standalonePlaces;
+  }
+
+  -- the word beside it says the same of every other slot
+  module _ (other : (j : ℕ) → (j ≡ i → ⊥) → isUsed word j ≡ isUsed (t .occupied) j) where
+    pub slot-entries : (p : Entry → Bool)
+        → count p (entries (withSlot t word i c)) + bit (isUsed (t .occupied) i && p (record { slot = i; ids = idsOf (callAt t i) }))
+        ≡ count p (entries t) + bit (isUsed word i && p (record { slot = i; ids = idsOf c }))
+    slot-entries p =
+        let x : Entry = record { slot = i; ids = idsOf (callAt t i) } in
+        let y : Entry = record { slot = i; ids = idsOf (callAt (withSlot t word i c) i) } in
+        omega (
+          arith,
+          below-one (openAt (withSlot t word i c)) (openAt t) p i (totalOf t) inside (λ j n. rw (other j n, call-other j n)),
+          count-when p (isUsed (t .occupied) i) x,
+          count-when p (isUsed word i) y ∙ ap (λ d. bit (isUsed word i && p (record { slot = i; ids = idsOf d }))) call-here,
+        )
+
+    pub slot-held : (p : Held → Bool)
+        → count p (held (withSlot t word i c)) + cond (isUsed (t .occupied) i) (count p (heldIn (callAt t i))) 0
+        ≡ count p (held t) + cond (isUsed word i) (count p (heldIn c)) 0
+    slot-held p =
+        omega (
+          arith,
+          count-append p (below (heldAt (withSlot t word i c)) (totalOf t)) (below (standaloneAt t) 8),
+          count-append p (below (heldAt t) (totalOf t)) (below (standaloneAt t) 8),
+          below-one (heldAt (withSlot t word i c)) (heldAt t) p i (totalOf t) inside (λ j n. rw (other j n, call-other j n)),
+          count-list-if p (isUsed (t .occupied) i) (heldIn (callAt t i)),
+          count-list-if p (isUsed word i) (heldIn (callAt (withSlot t word i c) i)) ∙ ap (λ d. cond (isUsed word i) (count p (heldIn d)) 0) call-here,
+        )
+
+    pub slot-names : ((j : ℕ) → j < totalOf t → isUsed (t .occupied) j ≡ true → validIds (callAt t j) ≡ true) → (isUsed word i ≡ true → validIds c ≡ true)
+        → (j : ℕ) → j < totalOf t → isUsed word j ≡ true → validIds (callAt (withSlot t word i c) j) ≡ true
+    slot-names h k = by-slot (λ j d. isUsed word j ≡ true → validIds d ≡ true) k (λ j l n u. h j l (sym (other j n) ∙ u))
+
+    pub slot-free-clear : ((j : ℕ) → j < totalOf t → slotFreeClear t j ≡ true) → cond (isUsed word i) (callFreeClear c) (callClear c) ≡ true
+        → (j : ℕ) → j < totalOf t → slotFreeClear (withSlot t word i c) j ≡ true
+    slot-free-clear h k = by-slot (λ j d. cond (isUsed word j) (callFreeClear d) (callClear d) ≡ true) k (λ j l n. rw (other j n) (h j l))

@@ -1,0 +1,13 @@
+pub mod Closed
+pub mod Salvaged
+pub mod Reading
+pub mod Part
+pub mod AllKept
+pub mod Fours
+pub mod Connected
+pub mod Blocks
+pub mod Codec
+pub mod Slots
+pub mod Written
+pub mod RoundTrip
+pub mod Named

@@ -1,0 +1,117 @@
+-- What reading a checkpoint promises (02, A13): the rules hold whatever bytes are read, plain reading refuses exactly
+-- what salvage would drop, and demand 3 goes on from the table that is read.
+-- Assumes nothing.
+use Prim.Native.Nat.{ℕ}
+use mathlib.Core.Path.{_≡_, refl}
+use mathlib.Core.List.{List, [], _∷_}
+use mathlib.Core.Bool.{Bool, true, false, cond, not, _||_}
+use lib.Dec.{eqb}
+use borrow.Author.Tests.{eq-eqb, eqb-true}
+use Rattle.numbers.specs.Search.{isIn}
+use Rattle.table.specs.declared.answer.RosterAnswer.{RosterAnswer}
+use Rattle.table.specs.declared.answer.RosterAnswer.the-variants.{Accepted, Short, Form, Length, SpareBits, Share, Repeated, Guarantees}
+use Rattle.table.specs.Total.{total}
+use Rattle.table.specs.Lists.{Terms, roster, entries}
+use Rattle.table.specs.Rules.{rulesHold}
+use Rattle.table.specs.Roster.{customersIn, recordsIn, rosterNumber, rosterAnswer, freshTable, tableFor, formIn}
+use Rattle.table.proofs.Fresh.{fresh-holds, empty-holds, fresh-roster}
+use Rattle.spec_changes.proofs.Fresh.{fresh-shape}
+use Rattle.spec_promises.specs.Promises.{Input, AtEveryStep, Promised, Bytes}
+use Rattle.spec_promises.proofs.Demand3.{accepted, demand3-from}
+use Rattle.spec_checkpoint.specs.Restored.{Restored, badSize, unrestored, fromCheckpoint, dropsNone, restored}
+use Rattle.spec_checkpoint.proofs.Closed.{closed-fresh}
+use Rattle.spec_checkpoint.proofs.Salvaged.{Sound, salvaged-sound}
+
+-- ---- the table that is given
+
+abbrev terms : List ℕ → List Terms
+terms r = recordsIn r (customersIn r)
+
+fresh-sound : (r : List ℕ) → Bytes r → rosterAnswer r ≡ Accepted → Sound (terms r) (freshTable r)
+fresh-sound r b e = record { shape = fresh-shape r; rules = fresh-holds r b e; roster = fresh-roster r e; closed = closed-fresh r }
+
+pub checkpoint-sound : (r s : List ℕ) → Bytes r → rosterAnswer r ≡ Accepted → Sound (terms r) (fromCheckpoint r s .table)
+unfolding fromCheckpoint
+checkpoint-sound r s b e = salvaged-sound (terms r) (freshTable r) s (fresh-sound r b e)
+
+-- what an accepted roster's reading gives is one of two
+module _ (P : Restored → Type 0) (salvage : Bool) (r s : List ℕ) (e : rosterNumber (rosterAnswer r) ≡ 0) where
+  read-as : ((answer : ℕ) → P (unrestored answer (freshTable r))) → P (fromCheckpoint r s) → P (restored salvage r s)
+  unfolding restored
+  read-as u f = rw (eq-eqb _ _ e) (by (badSize s) (not (eqb (formIn s) 1)) (salvage || dropsNone (fromCheckpoint r s)))
+    where
+      by : (a b c : Bool) → P (cond a (unrestored 70 (freshTable r)) (cond b (unrestored 71 (freshTable r)) (cond c (fromCheckpoint r s) (unrestored 72 (freshTable r)))))
+      by true b c = u 70
+      by false true c = u 71
+      by false false true = f
+      by false false false = u 72
+
+-- of an accepted roster: the rules, the shape, the roster itself, and places closed up
+pub restored-sound : (salvage : Bool) (r s : List ℕ) → Bytes r → rosterNumber (rosterAnswer r) ≡ 0 → Sound (terms r) (restored salvage r s .table)
+restored-sound salvage r s b e =
+    let a = accepted (rosterAnswer r) e in
+    read-as (λ f. Sound (terms r) (f .table)) salvage r s e (λ n. fresh-sound r b a) (checkpoint-sound r s b a)
+
+-- "whatever bytes are read, the table given keeps the rules"
+pub restored-holds : (salvage : Bool) (r s : List ℕ) → Bytes r → rulesHold (restored salvage r s .table) ≡ true
+unfolding restored tableFor
+restored-holds salvage r s b = by (eqb (rosterNumber (rosterAnswer r)) 0) refl
+  where
+    by : (a : Bool) → eqb (rosterNumber (rosterAnswer r)) 0 ≡ a → rulesHold (restored salvage r s .table) ≡ true
+    by true q = restored-sound salvage r s b (eqb-true _ _ q) .rules
+    by false q = rw q empty-holds
+
+-- "salvage of an accepted roster answers 0, 70 or 71 only"
+pub salvage-answers : (r s : List ℕ) → rosterNumber (rosterAnswer r) ≡ 0 → isIn (restored true r s .answer) (0 ∷ 70 ∷ 71 ∷ []) ≡ true
+unfolding restored fromCheckpoint isIn
+salvage-answers r s e = rw (eq-eqb _ _ e) (by (badSize s) (not (eqb (formIn s) 1)))
+  where
+    by : (a b : Bool) → isIn (cond a (unrestored 70 (freshTable r)) (cond b (unrestored 71 (freshTable r)) (fromCheckpoint r s)) .answer) (0 ∷ 70 ∷ 71 ∷ []) ≡ true
+    by true b = refl
+    by false true = refl
+    by false false = refl
+
+-- ---- plain and salvage
+
+-- where salvage drops nothing, plain reading gives the same, answer and table
+pub plain-same : (r s : List ℕ) → dropsNone (restored true r s) ≡ true → restored false r s ≡ restored true r s
+unfolding restored
+plain-same r s h = by (not (eqb (rosterNumber (rosterAnswer r)) 0)) (badSize s) (not (eqb (formIn s) 1)) h
+  where
+    by : (a b c : Bool)
+        → dropsNone (cond a (unrestored (rosterNumber (rosterAnswer r)) (tableFor (rosterAnswer r) r)) (cond b (unrestored 70 (freshTable r)) (cond c (unrestored 71 (freshTable r)) (fromCheckpoint r s)))) ≡ true
+        → cond a (unrestored (rosterNumber (rosterAnswer r)) (tableFor (rosterAnswer r) r)) (cond b (unrestored 70 (freshTable r)) (cond c (unrestored 71 (freshTable r)) (cond (dropsNone (fromCheckpoint r s)) (fromCheckpoint r s) (unrestored 72 (freshTable r)))))
+        ≡ cond a (unrestored (rosterNumber (rosterAnswer r)) (tableFor (rosterAnswer r) r)) (cond b (unrestored 70 (freshTable r)) (cond c (unrestored 71 (freshTable r)) (fromCheckpoint r s)))
+    by true b c h = refl
+    by false true c h = refl
+    by false false true h = refl
+    by false false false h = rw h
+
+-- plain reading answers 72 exactly when salvage drops something
+pub plain-72 : (r s : List ℕ) → eqb (restored false r s .answer) 72 ≡ not (dropsNone (restored true r s))
+unfolding restored fromCheckpoint
+plain-72 r s = by (rosterAnswer r) (badSize s) (not (eqb (formIn s) 1)) (dropsNone (fromCheckpoint r s)) refl
+  where
+    by : (a : RosterAnswer) (b c d : Bool) → dropsNone (fromCheckpoint r s) ≡ d
+        → eqb (cond (not (eqb (rosterNumber a) 0)) (unrestored (rosterNumber a) (tableFor a r)) (cond b (unrestored 70 (freshTable r)) (cond c (unrestored 71 (freshTable r)) (cond d (fromCheckpoint r s) (unrestored 72 (freshTable r))))) .answer) 72
+        ≡ not (dropsNone (cond (not (eqb (rosterNumber a) 0)) (unrestored (rosterNumber a) (tableFor a r)) (cond b (unrestored 70 (freshTable r)) (cond c (unrestored 71 (freshTable r)) (fromCheckpoint r s)))))
+    by Accepted true c d q = refl
+    by Accepted false true d q = refl
+    by Accepted false false true q = rw q
+    by Accepted false false false q = rw q
+    by Short b c d q = refl
+    by Form b c d q = refl
+    by Length b c d q = refl
+    by SpareBits b c d q = refl
+    by Share b c d q = refl
+    by Repeated b c d q = refl
+    by Guarantees b c d q = refl
+
+-- ---- demand 3 from a table that was read: the ledger holds its calls, and counts them as opened
+
+pub demand3-restored : (salvage : Bool) (r s : List ℕ) → Bytes r → rosterNumber (rosterAnswer r) ≡ 0 → (xs : List Input)
+    → AtEveryStep (Promised total (recordsIn r (customersIn r)) (entries (restored salvage r s .table))) (restored salvage r s .table) [] xs
+demand3-restored salvage r s b e xs =
+    let i = restored-sound salvage r s b e in
+    let t = restored salvage r s .table in
+    rw (← (i .roster)) (demand3-from t (entries t) (record { shape = i .shape; rules = i .rules; calls = λ p. refl }) xs)

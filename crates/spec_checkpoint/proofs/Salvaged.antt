@@ -1,0 +1,107 @@
+-- Every table that a checkpoint is read into keeps the rules and the roster, whatever bytes the checkpoint has.
+-- Assumes nothing.
+use Prim.Native.Nat.{ℕ, zero, suc, _<_}
+use mathlib.Core.Path.{_≡_, refl, ap, _∙_}
+use mathlib.Core.List.{List}
+use mathlib.Core.Bool.{Bool, true, false, cond, not, _&&_}
+use lib.Dec.{eqb}
+use lib.ListN.{length, replicate}
+use borrow.Author.Tests.{ltb-true, ne-eqb, not-true}
+use Rattle.lists.specs.Count.{has}
+use Rattle.lists.proofs.Count.{has-true, has-false}
+use Rattle.lists.proofs.Tests.{both}
+use Rattle.table.specs.declared.state.Table.{Table}
+use Rattle.table.specs.Total.{totalOf}
+use Rattle.table.specs.Word.{isUsed}
+use Rattle.table.specs.Zeros.{noPlace}
+use Rattle.table.specs.Lists.{Terms, roster, Held, held, entries}
+use Rattle.table.specs.Share.{listed}
+use Rattle.table.specs.Rules.{sameLsp, rulesHold}
+use Rattle.spec_changes.specs.Shape.{Shape}
+use Rattle.spec_changes.specs.Connections.{added, callMissing}
+use Rattle.spec_changes.proofs.Opened.{flipped-shape}
+use Rattle.spec_changes.proofs.Added.{MayAdd, added-roster, added-shape, added-kept}
+use Rattle.spec_changes.proofs.Told.{rules-kept, kept-rules}
+use Rattle.spec_checkpoint.specs.Layout.{callsIn, connectionsIn, callRecord, connectionRecord}
+use Rattle.spec_checkpoint.specs.declared.record.Slotted.{Slotted}
+use Rattle.spec_checkpoint.specs.Places.{ClosedUp}
+use Rattle.spec_checkpoint.specs.Salvage.{placed, soundAlone, keptByLongId, callFits, withCalls, connectionFits, withConnections, salvaged}
+use Rattle.spec_checkpoint.proofs.Closed.{closed-placed, closed-added}
+
+-- what stays true of the table from one record to the next
+pub record Sound (r : List Terms) (t : Table) : Type 0 where
+  pub shape : Shape t
+  pub rules : rulesHold t ≡ true
+  pub roster : roster t ≡ r
+  pub closed : ClosedUp t
+
+-- a table where a test passes, the one before where it does not
+either : (P : Table → Type 0) (b : Bool) (t u : Table) → P u → (b ≡ true → P t) → P (cond b t u)
+either P true t u p q = q refl
+either P false t u p q = p
+
+-- ---- calls
+
+-- a record that step 2 keeps names a slot within the total
+kept-inside : (fresh : Table) (s : List ℕ) (i : ℕ) → keptByLongId fresh s i ≡ true → callRecord s i .slot < totalOf fresh
+unfolding keptByLongId soundAlone
+kept-inside fresh s i h = ltb-true _ _ (both _ _ (both _ _ h .0) .0)
+
+call-sound : (r : List Terms) (t : Table) (c : Slotted) → c .slot < totalOf t → c .call .places ≡ replicate 4 noPlace → callFits t c ≡ true → Sound r t → Sound r (placed t c)
+unfolding callFits
+call-sound r t c h p f i = record {
+  shape = flipped-shape t (c .slot) (c .call) (i .shape) h (ap length p);
+  rules = both (not (isUsed (t .occupied) (c .slot))) _ f .1;
+  roster = i .roster;
+  closed = closed-placed t c (i .shape) h p (i .closed);
+}
+
+pub calls-sound : (r : List Terms) (fresh : Table) (s : List ℕ) → Sound r fresh → (n : ℕ) → Sound r (withCalls fresh s n)
+unfolding withCalls
+calls-sound r fresh s i zero = i
+calls-sound r fresh s i (suc n) =
+    let before = withCalls fresh s n in
+    either (Sound r) (keptByLongId fresh s n && callFits before (callRecord s n)) (placed before (callRecord s n)) before (calls-sound r fresh s i n) (λ h.
+    let k = both (keptByLongId fresh s n) (callFits before (callRecord s n)) h in
+    call-sound r before (callRecord s n) (kept-inside fresh s n (k .0)) refl (k .1) (calls-sound r fresh s i n))
+
+-- ---- connections
+
+pub may-add : (t : Table) (x : Held) → connectionFits t x ≡ true → MayAdd t x
+unfolding connectionFits
+may-add t x f =
+    let a = both (listed (roster t) (x .lsp .sender) && not (has (sameLsp x) (held t)) && not (callMissing (entries t) x)) _ f in
+    let b = both (listed (roster t) (x .lsp .sender) && not (has (sameLsp x) (held t))) _ (a .0) in
+    let c = both (listed (roster t) (x .lsp .sender)) _ (b .0) in
+    record {
+      known = c .0;
+      new = has-false _ (held t) (not-true _ (c .1));
+      call = λ n. has-true _ (entries t) (by _ (ne-eqb (x .call) 0 n) (b .1));
+      room = ltb-true _ 4 (a .1);
+    }
+  where
+    by : (h : Bool) → eqb (x .call) 0 ≡ false → not (not (eqb (x .call) 0) && not h) ≡ true → h ≡ true
+    by true e z = refl
+    by false e z = rw e at z
+
+connection-sound : (r : List Terms) (t : Table) (x : Held) → connectionFits t x ≡ true → Sound r t → Sound r (added t x)
+connection-sound r t x f i =
+    let m = may-add t x f in
+    record {
+      shape = added-shape t x (i .shape) m;
+      rules = kept-rules (added t x) (added-kept t x (i .shape) m (rules-kept t (i .rules)));
+      roster = added-roster t x (i .shape) m ∙ i .roster;
+      closed = closed-added t x (i .shape) m (i .closed);
+    }
+
+pub connections-sound : (r : List Terms) (t : Table) (s : List ℕ) → Sound r t → (n : ℕ) → Sound r (withConnections t s n)
+unfolding withConnections
+connections-sound r t s i zero = i
+connections-sound r t s i (suc n) =
+    let before = withConnections t s n in
+    either (Sound r) (connectionFits before (connectionRecord s n)) (added before (connectionRecord s n)) before (connections-sound r t s i n)
+    (λ h. connection-sound r before (connectionRecord s n) h (connections-sound r t s i n))
+
+pub salvaged-sound : (r : List Terms) (fresh : Table) (s : List ℕ) → Sound r fresh → Sound r (salvaged fresh s)
+unfolding salvaged
+salvaged-sound r fresh s i = connections-sound r _ s (calls-sound r fresh s i (callsIn s)) (connectionsIn s)

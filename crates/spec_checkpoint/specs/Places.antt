@@ -1,0 +1,15 @@
+-- Places closed up (02, A13): no free place stands before a taken one.
+use Prim.Native.Nat.{ℕ, suc, _<_}
+use mathlib.Core.Path.{_≡_}
+use mathlib.Core.Bool.{Bool, true}
+use Rattle.table.specs.declared.state.Table.{Table}
+use Rattle.table.specs.Total.{totalOf}
+use Rattle.table.specs.Lists.{customerAt, callAt, placeAt, standalonePlaceAt}
+
+-- of four places
+abbrev pub InOrder : (ℕ → Bool) → Type 0
+InOrder taken = (j : ℕ) → j < 3 → taken (suc j) ≡ true → taken j ≡ true
+
+pub record ClosedUp (t : Table) : Type 0 where
+  pub under : (i : ℕ) → i < totalOf t → InOrder (λ j. placeAt (callAt t i) j .taken)
+  pub standalone : (k : ℕ) → k < 8 → InOrder (λ j. standalonePlaceAt (customerAt t k) j .taken)

@@ -1,0 +1,202 @@
+-- Demand 3 (01, The ledger behind demand 3): the answers keep the ledger's promises, over every list of messages.
+-- Assumes nothing.
+use Prim.Native.Nat.{ℕ, _+_, _≤_, _<_}
+use native.Mathlib.Omega.{arith}
+use mathlib.Core.Path.{_≡_, refl, sym, ap, _∙_, subst}
+use mathlib.Core.Logic.{_≢_}
+use mathlib.Core.List.{List, [], _∷_}
+use mathlib.Core.Bool.{Bool, true, false, cond, _&&_}
+use lib.Dec.{eqb}
+use lib.ListN.{length}
+use borrow.Author.Tests.{eqb-true, eqb-false}
+use Rattle.lists.specs.Count.{bit, count, without}
+use Rattle.lists.proofs.Tests.{both}
+use Rattle.lists.proofs.Count.{count-le, count-split, count-without, count-share}
+use Rattle.messages.specs.declared.message.CallRequest.{CallRequest}
+use Rattle.messages.specs.declared.message.Message.the-variants.{Open, Close, Add, Drop}
+use Rattle.table.specs.declared.answer.RosterAnswer.{RosterAnswer}
+use Rattle.table.specs.declared.answer.RosterAnswer.the-variants.{Accepted, Short, Form, Length, SpareBits, Share, Repeated, Guarantees}
+use Rattle.table.specs.declared.state.Table.{Table}
+use Rattle.table.specs.Total.{total, totalOf}
+use Rattle.table.specs.Lists.{Terms, roster, Ids, Entry, entries, held}
+use Rattle.table.specs.Share.{listed, limitOf, from, callsOf}
+use Rattle.table.specs.Rules.{samePair, sameShort, sameLong}
+use Rattle.table.specs.Roster.{rosterNumber, customersIn, recordsIn, rosterAnswer, freshTable, tableFor}
+use Rattle.table.proofs.Fresh.{fresh-holds, fresh-roster, fresh-entries}
+use Rattle.spec_changes.specs.Calls.{isCall}
+use Rattle.spec_changes.proofs.Told.{roster-kept, guarantee-within, rules-kept}
+use Rattle.spec_changes.proofs.Fresh.{fresh-shape}
+use Rattle.answers.specs.declared.answer.Answer.{Answer}
+use Rattle.answers.specs.Answers.{answerNumber, is}
+use Rattle.spec_calls.specs.Form.{Form as Formed, faulty, sound, formOf}
+use Rattle.spec_calls.specs.CallRules.{idsIn, isOpen, shortInUse, longInUse}
+use Rattle.spec_calls.specs.PathRules.{heldBy}
+use Rattle.spec_calls.specs.Handling.{formAnswer, answerFrom2}
+use Rattle.spec_promises.specs.Ledger.{Fed, fourOf, lowestSlot, feed, ledger, answered}
+use Rattle.spec_promises.specs.Promises.{Input, fed, tableThen, AtEveryStep, dueAnswer, Promised, Bytes, Agrees}
+use Rattle.spec_calls.proofs.Decided.{open-never, open-same, close-never, add-never, drop-never}
+use Rattle.spec_promises.proofs.Due.{open-due}
+use Rattle.spec_promises.proofs.Formed.{Says, form-says}
+use Rattle.spec_promises.proofs.Step.{answer-is, step-agrees, step-roster, step-closes}
+
+-- ---- opened is count and closed
+
+call-sender : (c : Ids) (e : Entry) → isCall c e ≡ true → c .sender ≡ e .ids .sender
+unfolding sameShort
+call-sender c e h =
+    let k = both (sameShort c (e .ids)) (sameLong c (e .ids)) h in
+    let m = both (samePair c (e .ids)) (eqb (c .short) (e .ids .short)) (k .0) in
+    eqb-true _ _ (both (eqb (c .endpoint) (e .ids .endpoint)) (eqb (c .sender) (e .ids .sender)) (m .0) .1)
+
+-- a call that stands once is one less when taken out
+one-less : (a : ℕ) (l : List Entry) (c : Ids) → 0 < count (isCall c) l → count (λ e. sameShort c (e .ids)) l ≤ 1
+    → callsOf l a ≡ callsOf (without (isCall c) l) a + bit (eqb (c .sender) a)
+one-less a l c h once =
+    by (eqb (c .sender) a) (count-share (from a) (isCall c) (eqb (c .sender) a) l (λ e q. ap (λ n. eqb n a) (sym (call-sender c e q))))
+  where
+    by : (b : Bool) → count (λ e. isCall c e && from a e) l ≡ cond b (count (isCall c) l) 0 → callsOf l a ≡ callsOf (without (isCall c) l) a + bit b
+    by true p =
+        omega (
+          arith,
+          count-split (from a) (isCall c) l,
+          count-without (from a) (isCall c) l,
+          count-le (isCall c) (λ e. sameShort c (e .ids)) l (λ e q. both (sameShort c (e .ids)) (sameLong c (e .ids)) q .0),
+        )
+    by false p = omega (arith, count-split (from a) (isCall c) l, count-without (from a) (isCall c) l)
+
+sums-by : (a : ℕ) (l : List Entry) (slot : ℕ) (c : Ids) (b d : Bool) (o k : ℕ) → (b ≡ true → d ≡ false) → (d ≡ true → 0 < count (isCall c) l)
+    → count (λ e. sameShort c (e .ids)) l ≤ 1 → o ≡ callsOf l a + k
+    → bit (b && eqb (c .sender) a) + o
+    ≡ callsOf (cond b (record { slot = slot; ids = c } ∷ l) (cond d (without (isCall c) l) l)) a + (bit (d && eqb (c .sender) a) + k)
+sums-by a l slot c true d o k n m u h = rw (n refl) (omega arith)
+sums-by a l slot c false true o k n m u h = omega (arith, one-less a l c (m refl) u)
+sums-by a l slot c false false o k n m u h = omega arith
+
+-- no answer is both
+not-both : (a : Answer) → is 20 a ≡ true → is 22 a ≡ false
+not-both a h = rw (eqb-true (answerNumber a) 20 h)
+
+module _ (t : Table) (l : List Entry) (g : Agrees t l) where
+  form-never-1 : (s : List ℕ) (f : Formed) → Says (roster t) s f → is 1 (formAnswer t s f) ≡ false
+  form-never-1 s (faulty a) i = i .not1
+  form-never-1 s (sound (Open q)) i = open-never (totalOf t) (roster t) (entries t) (idsIn s q) 1 refl refl refl refl refl
+  form-never-1 s (sound (Close q)) i = close-never (entries t) (held t) (idsIn s q) 1 refl refl refl
+  form-never-1 s (sound (Add c)) i = add-never (entries t) (held t) (heldBy c) 1 refl refl refl refl refl
+  form-never-1 s (sound (Drop c)) i = drop-never (entries t) (held t) (heldBy c) 1 refl refl
+
+  -- ---- what the ledger promises of one message
+
+  module _ (x : Input) where
+    answer : fed t x .answer ≡ answerFrom2 t (x .message) (length (x .buffer))
+    answer = answer-is t (x .message) (length (x .buffer)) (g .rules)
+
+    never-one : answerNumber (fed t x .answer) ≢ 1
+    never-one =
+        eqb-false _ _
+        (rw answer (form-never-1 (x .message) (formOf (roster t) (x .message) (length (x .buffer))) (form-says (roster t) (x .message) (length (x .buffer)))))
+
+    counted : (a o k : ℕ) → o ≡ callsOf l a + k
+        → bit (is 20 (fed t x .answer) && eqb (fourOf (x .message) .sender) a) + o
+        ≡ callsOf (feed (totalOf t) (fed t x) l) a + (bit (is 22 (fed t x .answer) && eqb (fourOf (x .message) .sender) a) + k)
+    counted a o k e =
+        sums-by a l (lowestSlot l (totalOf t) 0) (fourOf (x .message)) (is 20 (fed t x .answer)) (is 22 (fed t x .answer)) o k
+        (not-both (fed t x .answer))
+        (λ q. step-closes t l g x q .0)
+        (rw (← (g .calls (λ e. sameShort (fourOf (x .message)) (e .ids)))) (rules-kept t (g .rules) .calls .shorts (fourOf (x .message)))) e
+
+    limited : (a : ℕ) → listed (roster t) a ≡ true → callsOf (feed (totalOf t) (fed t x) l) a ≤ limitOf (roster t) a
+    limited a known =
+        let n = step-agrees t l g x in
+        rw (← (n .calls (from a)), ← (step-roster t l g x)) (rules-kept (tableThen t x) (n .rules) .calls .limits a (rw (step-roster t l g x) known))
+
+    due : (q : CallRequest) → formOf (roster t) (x .message) (length (x .buffer)) ≡ sound (Open q)
+        → isOpen l (idsIn (x .message) q) ≡ false → longInUse l (idsIn (x .message) q) ≡ false → shortInUse l (idsIn (x .message) q) ≡ false
+        → answerNumber (fed t x .answer) ≡ dueAnswer (totalOf t) (roster t) l (q .sender)
+    due q e a b c =
+        rw (answer, e, open-same (totalOf t) (roster t) (entries t) l (idsIn (x .message) q) (g .calls))
+        (open-due (totalOf t) (roster t) l (idsIn (x .message) q)
+        (guarantee-within (totalOf t) (roster t) (q .sender) (roster-kept t (rules-kept t (g .rules) .accepted) .shares)) a b c)
+
+-- ---- the whole list
+
+-- the calls opened, those at the start among them, are the count plus the calls closed
+abbrev Counted : List Entry → List Fed → Type 0
+Counted start h = (sender : ℕ) → callsOf start sender + answered 20 sender h ≡ callsOf (ledger total start h) sender + answered 22 sender h
+
+step-counted : (t : Table) (start : List Entry) (h : List Fed) → Agrees t (ledger total start h) → (x : Input) → Counted start h → Counted start (fed t x ∷ h)
+step-counted t start h g x u a =
+    omega (arith, counted t (ledger total start h) g x a (callsOf start a + answered 20 a h) (answered 22 a h) (u a))
+
+step-promised : (t : Table) (start : List Entry) (h : List Fed) → Agrees t (ledger total start h) → (x : Input) → Counted start h
+    → Promised total (roster t) start t h x
+step-promised t start h g x u = record {
+  neverOne = never-one t (ledger total start h) g x;
+  defined = answer t (ledger total start h) g x;
+  counted = step-counted t start h g x u;
+  limited = limited t (ledger total start h) g x;
+  due = due t (ledger total start h) g x;
+}
+
+-- what holds at every point of a run
+record Running (r : List Terms) (start : List Entry) (t : Table) (h : List Fed) : Type 0 where
+  pub roster : roster t ≡ r
+  pub agrees : Agrees t (ledger total start h)
+  pub counted : Counted start h
+
+running-on : (r : List Terms) (start : List Entry) (t : Table) (h : List Fed) (x : Input) → Running r start t h → Running r start (tableThen t x) (fed t x ∷ h)
+running-on r start t h x i = record {
+  roster = step-roster t (ledger total start h) (i .agrees) x ∙ i .roster;
+  agrees = step-agrees t (ledger total start h) (i .agrees) x;
+  counted = step-counted t start h (i .agrees) x (i .counted);
+}
+
+-- what follows from that at one step holds at every step
+at-every-step : (P : Table → List Fed → Input → Type 0) (r : List Terms) (start : List Entry) → ((t : Table) (h : List Fed) (x : Input) → Running r start t h → P t h x)
+    → (xs : List Input) (t : Table) (h : List Fed) → Running r start t h → AtEveryStep P t h xs
+at-every-step P r start f [] t h i = tt
+at-every-step P r start f (x ∷ xs) t h i = (f t h x i, at-every-step P r start f xs (tableThen t x) (fed t x ∷ h) (running-on r start t h x i))
+
+promised : (r : List Terms) (start : List Entry) (t : Table) (h : List Fed) (x : Input) → Running r start t h → Promised total r start t h x
+promised r start t h x i = subst (λ r. Promised total r start t h x) (i .roster) (step-promised t start h (i .agrees) x (i .counted))
+
+from-start : (t : Table) (start : List Entry) → Agrees t start → Running (roster t) start t []
+from-start t start g = record { roster = refl; agrees = g; counted = λ a. refl }
+
+-- from any table that agrees with a ledger's entries at the start
+pub demand3-from : (t : Table) (start : List Entry) → Agrees t start → (xs : List Input) → AtEveryStep (Promised (totalOf t) (roster t) start) t [] xs
+demand3-from t start g xs = at-every-step _ (roster t) start (promised (roster t) start) xs t [] (from-start t start g)
+
+-- the fresh table agrees with the ledger that has no entries
+fresh-agrees : (s : List ℕ) → Bytes s → rosterAnswer s ≡ Accepted → Agrees (freshTable s) []
+fresh-agrees s bytes e = record { shape = fresh-shape s; rules = fresh-holds s bytes e; calls = λ p. rw (fresh-entries s) }
+
+-- 0 is the accepted roster's answer, which returns the fresh table
+pub accepted : (a : RosterAnswer) → rosterNumber a ≡ 0 → a ≡ Accepted
+accepted Accepted e = refl
+accepted Short e = let z : ⊥ = omega arith in absurd z
+accepted Form e = let z : ⊥ = omega arith in absurd z
+accepted Length e = let z : ⊥ = omega arith in absurd z
+accepted SpareBits e = let z : ⊥ = omega arith in absurd z
+accepted Share e = let z : ⊥ = omega arith in absurd z
+accepted Repeated e = let z : ⊥ = omega arith in absurd z
+accepted Guarantees e = let z : ⊥ = omega arith in absurd z
+
+table-agrees : (s : List ℕ) → Bytes s → rosterNumber (rosterAnswer s) ≡ 0 → Agrees (tableFor (rosterAnswer s) s) []
+unfolding tableFor
+table-agrees s bytes e = let a = accepted (rosterAnswer s) e in rw a (fresh-agrees s bytes a)
+
+table-roster : (s : List ℕ) → rosterNumber (rosterAnswer s) ≡ 0 → roster (tableFor (rosterAnswer s) s) ≡ recordsIn s (customersIn s)
+unfolding tableFor
+table-roster s e = let a = accepted (rosterAnswer s) e in rw a (fresh-roster s a)
+
+-- from the table of every byte string that the roster reader answers 0, over every list of messages and reply buffers
+pub demand3 : (s : List ℕ) → Bytes s → rosterNumber (rosterAnswer s) ≡ 0 → (xs : List Input)
+    → AtEveryStep (Promised total (recordsIn s (customersIn s)) []) (tableFor (rosterAnswer s) s) [] xs
+demand3 s bytes e xs = rw (← (table-roster s e)) (demand3-from (tableFor (rosterAnswer s) s) [] (table-agrees s bytes e) xs)
+
+-- what holds of a table that agrees with a ledger (Named.antt) holds all along such a run
+pub agrees-throughout : (s : List ℕ) → Bytes s → rosterNumber (rosterAnswer s) ≡ 0 → (xs : List Input)
+    → AtEveryStep (λ t h x. Agrees t (ledger total [] h)) (tableFor (rosterAnswer s) s) [] xs
+agrees-throughout s bytes e xs =
+    let t = tableFor (rosterAnswer s) s in
+    at-every-step _ (roster t) [] (λ t h x i. i .agrees) xs t [] (from-start t [] (table-agrees s bytes e))

@@ -1,0 +1,148 @@
+-- What a customer asks for by name: retries, refusals, the table rules, and calls with connections.
+-- Assumes nothing.
+use Prim.Native.Nat.{ℕ, _<_}
+use native.Mathlib.Omega.{arith}
+use mathlib.Core.Path.{_≡_, refl}
+use mathlib.Core.List.{List, _∷_}
+use mathlib.Core.Bool.{Bool, true, false, cond, _&&_}
+use lib.Dec.{eqb}
+use lib.ListN.{length}
+use borrow.Author.Tests.{eqb-true}
+use Rattle.lists.specs.Count.{count, has, without}
+use Rattle.lists.proofs.Tests.{both}
+use Rattle.lists.proofs.Count.{has-true, has-false, true-has, has-nothing, count-ext, count-split, count-without}
+use Rattle.messages.specs.declared.message.CallRequest.{CallRequest}
+use Rattle.messages.specs.declared.message.Message.the-variants.{Open, Close, Add, Drop}
+use Rattle.table.specs.declared.state.Table.{Table}
+use Rattle.table.specs.Total.{totalOf}
+use Rattle.table.specs.Lists.{roster, Ids, Entry, entries, Held, held}
+use Rattle.table.specs.Rules.{samePair, sameShort, sameLong, rulesHold}
+use Rattle.spec_changes.specs.Calls.{opened, isCall, closed, identifierTaken}
+use Rattle.spec_changes.specs.Connections.{added, removed, callMissing, isUnder}
+use Rattle.spec_changes.proofs.CallMissing.{no-call-missing}
+use Rattle.answers.specs.declared.answer.Answer.{Answer}
+use Rattle.answers.specs.Answers.{answerNumber, is, sendsNotify}
+use Rattle.spec_calls.specs.Form.{Form, faulty, sound, formOf}
+use Rattle.spec_calls.specs.CallRules.{idsIn, isOpen}
+use Rattle.spec_calls.specs.PathRules.{heldBy}
+use Rattle.spec_calls.specs.Handling.{formTable, tableAfter}
+use Rattle.spec_promises.specs.Ledger.{fourOf, lowestSlot}
+use Rattle.spec_promises.specs.Promises.{Input, fed, tableThen, Agrees, Unchanged, Cause}
+use Rattle.spec_calls.proofs.Decided.{open-again, open-same}
+use Rattle.spec_promises.proofs.Due.{open-cause}
+use Rattle.spec_promises.proofs.Step.{answer-is, step-agrees, step-closes}
+
+-- ---- a refused message leaves calls and connections as they were
+
+as-it-was : (t : Table) → Unchanged t t
+as-it-was t = record { occupied = refl; calls = refl; customers = refl }
+
+-- where no change is made, at most the next own identifier moves
+no-change : (t u : Table) (b notified : Bool) → b ≡ false → Unchanged t (cond notified (identifierTaken (cond b u t)) (cond b u t))
+no-change t u true notified e = let z : _≡_ {A = ℕ} 0 1 = cc in absurd (omega arith)
+no-change t u false true e = record { occupied = refl; calls = refl; customers = refl }
+no-change t u false false e = as-it-was t
+
+form-unchanged : (t : Table) (s : List ℕ) (f : Form) (a : Answer) → is 20 a ≡ false → is 22 a ≡ false → is 23 a ≡ false → is 25 a ≡ false
+    → Unchanged t (formTable t s f a)
+form-unchanged t s (faulty _) a e20 e22 e23 e25 = as-it-was t
+form-unchanged t s (sound (Open q)) a e20 e22 e23 e25 = no-change t (opened t (idsIn s q)) (is 20 a) (sendsNotify a) e20
+form-unchanged t s (sound (Close q)) a e20 e22 e23 e25 = no-change t (closed t (idsIn s q)) (is 22 a) (sendsNotify a) e22
+form-unchanged t s (sound (Add c)) a e20 e22 e23 e25 = no-change t (added t (heldBy c)) (is 23 a) (sendsNotify a) e23
+form-unchanged t s (sound (Drop c)) a e20 e22 e23 e25 = no-change t (removed t (heldBy c)) (is 25 a) (sendsNotify a) e25
+
+-- any table, any message: only 20, 22, 23 and 25 change calls or connections
+pub refused-unchanged : (t : Table) (x : Input)
+    → is 20 (fed t x .answer) ≡ false → is 22 (fed t x .answer) ≡ false → is 23 (fed t x .answer) ≡ false → is 25 (fed t x .answer) ≡ false
+    → Unchanged t (tableThen t x)
+unfolding tableAfter
+refused-unchanged t x =
+    form-unchanged t (x .message) (formOf (roster t) (x .message) (length (x .buffer))) (fed t x .answer)
+
+-- ---- a retry finds the call it opened
+
+pub retry-is-21 : (t : Table) (l : List Entry) → Agrees t l → (x : Input) (q : CallRequest) → formOf (roster t) (x .message) (length (x .buffer)) ≡ sound (Open q)
+    → isOpen l (idsIn (x .message) q) ≡ true → (answerNumber (fed t x .answer) ≡ 21) × Unchanged t (tableThen t x)
+retry-is-21 t l g x q e known = (number, refused-unchanged t x (other 20 refl) (other 22 refl) (other 23 refl) (other 25 refl))
+  where
+    number : answerNumber (fed t x .answer) ≡ 21
+    number =
+        rw (
+          answer-is t (x .message) (length (x .buffer)) (g .rules),
+          e,
+          open-again (totalOf t) (roster t) (entries t) (idsIn (x .message) q) (rw (g .calls (isCall (idsIn (x .message) q))) known),
+        )
+
+    other : (n : ℕ) → eqb 21 n ≡ false → is n (fed t x .answer) ≡ false
+    other n e = rw number e
+
+-- ---- a setup that is refused had to be
+
+pub setup-cause : (t : Table) (l : List Entry) → Agrees t l → (x : Input) (q : CallRequest) → formOf (roster t) (x .message) (length (x .buffer)) ≡ sound (Open q)
+    → Cause (totalOf t) (roster t) l (idsIn (x .message) q) (answerNumber (fed t x .answer))
+setup-cause t l g x q e =
+    rw (answer-is t (x .message) (length (x .buffer)) (g .rules), e, open-same (totalOf t) (roster t) (entries t) l (idsIn (x .message) q) (g .calls))
+    (open-cause (totalOf t) (roster t) l (idsIn (x .message) q))
+
+-- ---- the rules hold after every message
+
+pub rules-after : (t : Table) (l : List Entry) → Agrees t l → (x : Input) → rulesHold (tableThen t x) ≡ true
+rules-after t l g x = step-agrees t l g x .rules
+
+-- ---- a connection with a nonzero Call ID belongs to an open call: no table has one that does not
+
+pub connection-has-call : (t : Table) → has (callMissing (entries t)) (held t) ≡ false
+connection-has-call t = no-call-missing t
+
+-- ---- a call with connections stays
+
+-- two calls in one slot are the same to every connection
+same-under : (c d e : Ids) → sameShort c e ≡ true → sameShort d e ≡ true → (x : Held) → isUnder c x ≡ isUnder d x
+unfolding sameShort
+same-under c d e p q x =
+    let a = both (samePair c e) (eqb (c .short) (e .short)) p in
+    let b = both (eqb (c .endpoint) (e .endpoint)) (eqb (c .sender) (e .sender)) (a .0) in
+    let f = both (samePair d e) (eqb (d .short) (e .short)) q in
+    let g = both (eqb (d .endpoint) (e .endpoint)) (eqb (d .sender) (e .sender)) (f .0) in
+    rw (
+      eqb-true (c .short) (e .short) (a .1),
+      eqb-true (c .endpoint) (e .endpoint) (b .0),
+      eqb-true (c .sender) (e .sender) (b .1),
+      eqb-true (d .short) (e .short) (f .1),
+      eqb-true (d .endpoint) (e .endpoint) (g .0),
+      eqb-true (d .sender) (e .sender) (g .1),
+    )
+
+-- a call with connections is none of the calls that an entry of a call without any could be
+apart-from : (h : List Held) (c d : Ids) → has (isUnder c) h ≡ true → count (isUnder d) h ≡ 0 → (e : Entry) → (isCall d e && isCall c e) ≡ false
+apart-from h c d busy idle e = by (isCall d e) (isCall c e) refl refl
+  where
+    by : (a b : Bool) → isCall d e ≡ a → isCall c e ≡ b → (a && b) ≡ false
+    by true true p q =
+        let m = both (sameShort d (e .ids)) (sameLong d (e .ids)) p in
+        let n = both (sameShort c (e .ids)) (sameLong c (e .ids)) q in
+        let z : ⊥ = omega (arith, has-true (isUnder c) h busy, count-ext (isUnder c) (isUnder d) h (same-under c d (e .ids) (n .0) (m .0))) in
+        absurd z
+    by true false p q = refl
+    by false b p q = refl
+
+stays : (l : List Entry) (slot : ℕ) (c d : Ids) (b k : Bool) → (k ≡ true → (e : Entry) → (isCall d e && isCall c e) ≡ false) → 0 < count (isCall c) l
+    → 0 < count (isCall c) (cond b (record { slot = slot; ids = d } ∷ l) (cond k (without (isCall d) l) l))
+stays l slot c d true k apart h = omega arith
+stays l slot c d false true apart h =
+    omega (
+      arith,
+      count-without (isCall c) (isCall d) l,
+      count-split (isCall c) (isCall d) l,
+      has-false (λ e. isCall d e && isCall c e) l (has-nothing (λ e. isCall d e && isCall c e) l (apart refl)),
+    )
+stays l slot c d false false apart h = h
+
+pub busy-call-stays : (t : Table) (l : List Entry) → Agrees t l → (x : Input) (c : Ids) → isOpen (entries t) c ≡ true → has (isUnder c) (held t) ≡ true
+    → isOpen (entries (tableThen t x)) c ≡ true
+busy-call-stays t l g x c known busy =
+    true-has (isCall c) (entries (tableThen t x))
+    (rw (step-agrees t l g x .calls (isCall c))
+    (stays l (lowestSlot l (totalOf t) 0) c (fourOf (x .message)) (is 20 (fed t x .answer)) (is 22 (fed t x .answer))
+    (λ e. apart-from (held t) c (fourOf (x .message)) busy (step-closes t l g x e .1))
+    (rw (← (g .calls (isCall c))) (has-true (isCall c) (entries t) known))))

@@ -1,0 +1,137 @@
+-- One message: table and ledger agree after it as before it, and the roster stays.
+-- Assumes nothing.
+use Prim.Native.Nat.{ℕ, _<_}
+use native.Mathlib.Omega.{arith}
+use mathlib.Core.Path.{_≡_, refl}
+use mathlib.Core.List.{List}
+use mathlib.Core.Bool.{Bool, true, false, cond}
+use lib.ListN.{length}
+use Rattle.lists.specs.Count.{count, without}
+use Rattle.messages.specs.declared.message.Connection.{Connection}
+use Rattle.messages.specs.declared.message.Message.the-variants.{Open, Close, Add, Drop}
+use Rattle.replies.proofs.Lengths.{part-length}
+use Rattle.table.specs.declared.state.Table.{Table}
+use Rattle.table.specs.Total.{totalOf}
+use Rattle.table.specs.Lists.{roster, Entry, entries, held}
+use Rattle.table.specs.Rules.{rulesHold}
+use Rattle.spec_changes.specs.Calls.{opened, isCall, closed, identifierTaken}
+use Rattle.spec_changes.specs.Connections.{added, removed, isUnder}
+use Rattle.spec_changes.proofs.Added.{MayAdd, added-roster}
+use Rattle.spec_changes.proofs.Removed.{removed-roster}
+use Rattle.answers.specs.Answers.{is, sendsNotify}
+use Rattle.spec_calls.specs.Form.{Form, faulty, sound, formOf}
+use Rattle.spec_calls.specs.CallRules.{idsIn, openAnswer, closeAnswer}
+use Rattle.spec_calls.specs.PathRules.{heldBy, addAnswer, dropAnswer}
+use Rattle.spec_calls.specs.Handling.{formAnswer, answerFrom2, answerOf, formTable, tableAfter}
+use Rattle.spec_promises.specs.Ledger.{fourOf, feed}
+use Rattle.spec_promises.specs.Promises.{Input, fed, tableThen, Agrees}
+use Rattle.spec_calls.proofs.Decided.{may-open, open-never, may-close, close-never, may-add, add-never, may-drop, drop-never}
+use Rattle.spec_promises.proofs.Formed.{Says, form-says}
+use Rattle.spec_promises.proofs.Agreement.{next-agrees, open-agrees, close-agrees, add-agrees, remove-agrees}
+
+never {ℓ} : {A : Type ℓ} (b : Bool) → b ≡ true → b ≡ false → A
+never b e f = let z : _≡_ {A = ℕ} 0 1 = cc in absurd (omega arith)
+
+-- a table that keeps the rules is answered from test 2 on
+pub answer-is : (t : Table) (s : List ℕ) (room : ℕ) → rulesHold t ≡ true → answerOf t s room ≡ answerFrom2 t s room
+unfolding answerOf
+answer-is t s room h = rw h
+
+module _ (t : Table) (l : List Entry) (g : Agrees t l) where
+  -- a change, where an answer makes it, and the identifier taken, where it sends a Notify
+  by-answer : (b notified : Bool) (u : Table) (k : List Entry) → (b ≡ true → Agrees u k)
+      → Agrees (cond notified (identifierTaken (cond b u t)) (cond b u t)) (cond b k l)
+  by-answer true true u k h = next-agrees u k (h refl)
+  by-answer true false u k h = h refl
+  by-answer false true u k h = next-agrees t l g
+  by-answer false false u k h = g
+
+  by-path : (b notified : Bool) (u : Table) → (b ≡ true → Agrees u l) → Agrees (cond notified (identifierTaken (cond b u t)) (cond b u t)) l
+  by-path true true u h = next-agrees u l (h refl)
+  by-path true false u h = h refl
+  by-path false true u h = next-agrees t l g
+  by-path false false u h = g
+
+  may-add-all : (s : List ℕ) (c : Connection) → Says (roster t) s (sound (Add c)) → is 23 (addAnswer (entries t) (held t) (heldBy c)) ≡ true → MayAdd t (heldBy c)
+  may-add-all s c i e =
+      let m = may-add (entries t) (held t) (heldBy c) e in
+      record { known = i .known; new = m .0; call = m .1; room = m .2 }
+
+  module _ (s : List ℕ) (room : ℕ) where
+    form-agrees : (f : Form) → Says (roster t) s f
+        → Agrees (formTable t s f (formAnswer t s f)) (feed (totalOf t) (record { message = s; room = room; answer = formAnswer t s f }) l)
+    form-agrees (faulty a) i = rw (i .not20, i .not22) g
+    form-agrees (sound (Open q)) i =
+        let a = openAnswer (totalOf t) (roster t) (entries t) (idsIn s q) in
+        rw (i .four, open-never (totalOf t) (roster t) (entries t) (idsIn s q) 22 refl refl refl refl refl)
+        (by-answer (is 20 a) (sendsNotify a) (opened t (idsIn s q)) _
+        (λ e. open-agrees t l g (idsIn s q) (may-open (totalOf t) (roster t) (entries t) (idsIn s q) (i .known) e) (i .inside .callSome)
+        (rw (part-length s (q .name) (i .inside .name)) (i .inside .nameSome)) (rw (part-length s (q .name) (i .inside .name)) (i .inside .nameMost))))
+    form-agrees (sound (Close q)) i =
+        let a = closeAnswer (entries t) (held t) (idsIn s q) in
+        rw (i .four, close-never (entries t) (held t) (idsIn s q) 20 refl refl refl)
+        (by-answer (is 22 a) (sendsNotify a) (closed t (idsIn s q)) (without (isCall (idsIn s q)) l)
+        (λ e. close-agrees t l g (idsIn s q) (may-close (entries t) (held t) (idsIn s q) e .0)))
+    form-agrees (sound (Add c)) i =
+        let a = addAnswer (entries t) (held t) (heldBy c) in
+        rw (add-never (entries t) (held t) (heldBy c) 20 refl refl refl refl refl, add-never (entries t) (held t) (heldBy c) 22 refl refl refl refl refl)
+        (by-path (is 23 a) (sendsNotify a) (added t (heldBy c)) (λ e. add-agrees t l g (heldBy c) (may-add-all s c i e)))
+    form-agrees (sound (Drop c)) i =
+        let a = dropAnswer (held t) (heldBy c) in
+        rw (drop-never (entries t) (held t) (heldBy c) 20 refl refl, drop-never (entries t) (held t) (heldBy c) 22 refl refl)
+        (by-path (is 25 a) (sendsNotify a) (removed t (heldBy c)) (λ e. remove-agrees t l g (heldBy c) (may-drop (entries t) (held t) (heldBy c) e)))
+
+  -- table and ledger agree after every message
+  pub step-agrees : (x : Input) → Agrees (tableThen t x) (feed (totalOf t) (fed t x) l)
+  unfolding tableAfter
+  step-agrees x =
+      let room = length (x .buffer) in
+      rw (answer-is t (x .message) room (g .rules))
+      (form-agrees (x .message) room (formOf (roster t) (x .message) room) (form-says (roster t) (x .message) room))
+
+  -- ---- the roster stays
+
+  roster-by : (b notified : Bool) (u : Table) → (b ≡ true → roster u ≡ roster t) → roster (cond notified (identifierTaken (cond b u t)) (cond b u t)) ≡ roster t
+  roster-by true true u h = h refl
+  roster-by true false u h = h refl
+  roster-by false true u h = refl
+  roster-by false false u h = refl
+
+  form-roster : (s : List ℕ) (f : Form) → Says (roster t) s f → roster (formTable t s f (formAnswer t s f)) ≡ roster t
+  unfolding opened closed
+  form-roster s (faulty a) i = refl
+  form-roster s (sound (Open q)) i =
+      let a = openAnswer (totalOf t) (roster t) (entries t) (idsIn s q) in
+      roster-by (is 20 a) (sendsNotify a) (opened t (idsIn s q)) (λ e. refl)
+  form-roster s (sound (Close q)) i =
+      let a = closeAnswer (entries t) (held t) (idsIn s q) in
+      roster-by (is 22 a) (sendsNotify a) (closed t (idsIn s q)) (λ e. refl)
+  form-roster s (sound (Add c)) i =
+      let a = addAnswer (entries t) (held t) (heldBy c) in
+      roster-by (is 23 a) (sendsNotify a) (added t (heldBy c)) (λ e. added-roster t (heldBy c) (g .shape) (may-add-all s c i e))
+  form-roster s (sound (Drop c)) i =
+      let a = dropAnswer (held t) (heldBy c) in
+      roster-by (is 25 a) (sendsNotify a) (removed t (heldBy c)) (λ e. removed-roster t (heldBy c) (g .shape) (may-drop (entries t) (held t) (heldBy c) e))
+
+  pub step-roster : (x : Input) → roster (tableThen t x) ≡ roster t
+  unfolding tableAfter
+  step-roster x =
+      let room = length (x .buffer) in
+      rw (answer-is t (x .message) room (g .rules))
+      (form-roster (x .message) (formOf (roster t) (x .message) room) (form-says (roster t) (x .message) room))
+
+  -- ---- 22 is given only to a call of the ledger that has no connections
+  form-closes : (s : List ℕ) (f : Form) → Says (roster t) s f → is 22 (formAnswer t s f) ≡ true
+      → (0 < count (isCall (fourOf s)) l) × (count (isUnder (fourOf s)) (held t) ≡ 0)
+  form-closes s (faulty a) i e = never _ e (i .not22)
+  form-closes s (sound (Open q)) i e =
+      never _ e (open-never (totalOf t) (roster t) (entries t) (idsIn s q) 22 refl refl refl refl refl)
+  form-closes s (sound (Close q)) i e =
+      rw (i .four, ← (g .calls (isCall (idsIn s q)))) (may-close (entries t) (held t) (idsIn s q) e)
+  form-closes s (sound (Add c)) i e = never _ e (add-never (entries t) (held t) (heldBy c) 22 refl refl refl refl refl)
+  form-closes s (sound (Drop c)) i e = never _ e (drop-never (entries t) (held t) (heldBy c) 22 refl refl)
+
+  pub step-closes : (x : Input) → is 22 (fed t x .answer) ≡ true → (0 < count (isCall (fourOf (x .message))) l) × (count (isUnder (fourOf (x .message))) (held t) ≡ 0)
+  step-closes x e =
+      let room = length (x .buffer) in
+      form-closes (x .message) (formOf (roster t) (x .message) room) (form-says (roster t) (x .message) room) (rw (answer-is t (x .message) room (g .rules)) at e)

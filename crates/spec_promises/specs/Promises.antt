@@ -1,0 +1,90 @@
+-- Demand 3, as one statement over a whole list of messages (01, The ledger behind demand 3).
+use Prim.Native.Nat.{ℕ, _+_, _≤_, _<_}
+use mathlib.Core.Path.{_≡_}
+use mathlib.Core.Logic.{_⊎_, _≢_}
+use mathlib.Core.List.{List, [], _∷_}
+use mathlib.Core.Bool.{Bool, true, false, cond, _||_}
+use lib.Dec.{ltb, eqb}
+use lib.ListN.{length, getD}
+use Rattle.numbers.specs.Search.{isIn}
+use Rattle.lists.specs.Count.{count}
+use Rattle.messages.specs.declared.message.CallRequest.{CallRequest}
+use Rattle.messages.specs.declared.message.Message.the-variants.{Open}
+use Rattle.table.specs.declared.state.Table.{Table}
+use Rattle.table.specs.Lists.{Terms, Ids, Entry, entries}
+use Rattle.table.specs.Share.{listed, guaranteeOf, limitOf, callsOf, S}
+use Rattle.table.specs.Rules.{rulesHold}
+use Rattle.spec_changes.specs.Shape.{Shape}
+use Rattle.answers.specs.Answers.{answerNumber}
+use Rattle.spec_calls.specs.Form.{sound, formOf}
+use Rattle.spec_calls.specs.CallRules.{idsIn, isOpen, shortInUse, longInUse}
+use Rattle.spec_calls.specs.Handling.{answerFrom2, handled}
+use Rattle.spec_promises.specs.Ledger.{Fed, ledger, answered}
+
+-- what the caller hands in beside the table
+pub record Input : Type 0 where
+  pub message : List ℕ
+  pub buffer : List ℕ
+
+abbrev pub fed : Table → Input → Fed
+fed t x = record { message = x .message; room = length (x .buffer); answer = handled t (x .message) (x .buffer) .answer }
+
+abbrev pub tableThen : Table → Input → Table
+tableThen t x = handled t (x .message) (x .buffer) .table
+
+-- something holds at every step of a run: of the table, of what the ledger was fed before, latest first, and of the
+-- input
+abbrev pub AtEveryStep : (Table → List Fed → Input → Type 0) → Table → List Fed → List Input → Type 0
+AtEveryStep P t h [] = Unit {0}
+AtEveryStep P t h (x ∷ xs) = P t h x × AtEveryStep P (tableThen t x) (fed t x ∷ h) xs
+
+-- what a setup of no fault, not open and with neither ID in use, is answered: 20 below the guarantee; else 34 exactly
+-- when the count is at the limit or no room is left, which is when S is the total; else 20
+unfoldable pub dueAnswer : ℕ → List Terms → List Entry → ℕ → ℕ
+dueAnswer total r l sender =
+    cond (ltb (callsOf l sender) (guaranteeOf r sender)) 20
+    (cond (eqb (callsOf l sender) (limitOf r sender) || eqb (S r l) total) 34
+    20)
+
+-- what holds of the answer to one input, and of the ledger after it
+pub record Promised (total : ℕ) (r : List Terms) (start : List Entry) (t : Table) (h : List Fed) (x : Input) : Type 0 where
+  -- the table is never found broken
+  pub neverOne : answerNumber (fed t x .answer) ≢ 1
+  -- the answer is the one that document 01 gives, test 1 left out
+  pub defined : fed t x .answer ≡ answerFrom2 t (x .message) (length (x .buffer))
+  -- of each customer, the calls opened are those in the ledger and those closed; those at the start count as opened
+  pub counted : (sender : ℕ)
+      → callsOf start sender + answered 20 sender (fed t x ∷ h) ≡ callsOf (ledger total start (fed t x ∷ h)) sender + answered 22 sender (fed t x ∷ h)
+  -- no customer has more calls in the ledger than its limit
+  pub limited : (sender : ℕ) → listed r sender ≡ true → callsOf (ledger total start (fed t x ∷ h)) sender ≤ limitOf r sender
+  -- a setup of no fault, judged by the ledger before it, whose call is not open and whose IDs its pair does not use, is
+  -- answered what its customer is due; bytes and buffer length alone tell whether it has a fault
+  pub due : (q : CallRequest) → formOf r (fed t x .message) (fed t x .room) ≡ sound (Open q)
+      → isOpen (ledger total start h) (idsIn (x .message) q) ≡ false
+      → longInUse (ledger total start h) (idsIn (x .message) q) ≡ false
+      → shortInUse (ledger total start h) (idsIn (x .message) q) ≡ false
+      → answerNumber (fed t x .answer) ≡ dueAnswer total r (ledger total start h) (q .sender)
+
+-- a byte string: every number is below 256
+abbrev pub Bytes : List ℕ → Type 0
+Bytes s = (k : ℕ) → getD s k 0 < 256
+
+-- a table that keeps the rules, and whose open calls are a ledger's entries, in any order
+pub record Agrees (t : Table) (l : List Entry) : Type 0 where
+  pub shape : Shape t
+  pub rules : rulesHold t ≡ true
+  pub calls : (p : Entry → Bool) → count p (entries t) ≡ count p l
+
+-- calls and connections are as they were (demand 1; the connections of Call ID 0 stand with their customers)
+pub record Unchanged (before after : Table) : Type 0 where
+  pub occupied : after .occupied ≡ before .occupied
+  pub calls : after .calls ≡ before .calls
+  pub customers : after .customers ≡ before .customers
+
+-- why a setup of no fault is refused, by what the ledger has (01, Every answer): each refusal has its cause, and there
+-- is no other
+pub record Cause (total : ℕ) (r : List Terms) (l : List Entry) (c : Ids) (number : ℕ) : Type 0 where
+  pub short : number ≡ 30 → (shortInUse l c ≡ true) × (longInUse l c ≡ false)
+  pub long : number ≡ 31 → (longInUse l c ≡ true) × (isOpen l c ≡ false)
+  pub share : number ≡ 34 → (callsOf l (c .sender) ≡ limitOf r (c .sender)) ⊎ ((guaranteeOf r (c .sender) ≤ callsOf l (c .sender)) × (S r l ≡ total))
+  pub only : isIn number (20 ∷ 21 ∷ 30 ∷ 31 ∷ 34 ∷ []) ≡ true

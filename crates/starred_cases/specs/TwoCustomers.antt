@@ -1,0 +1,180 @@
+-- The starred cases of 01, "Two customers, one table", as one table of rows on the bytes of rosters and messages.
+use Prim.Native.Nat.{ℕ, zero, suc, _+_, _*_}
+use mathlib.Core.List.{List, [], _∷_, _++_}
+use mathlib.Core.Bool.{Bool, true, false, _&&_}
+use lib.Dec.{eqb}
+use lib.ListN.{length, replicate}
+use Rattle.numbers.specs.BigEndian.{bytes16, bytes32}
+use Rattle.lists.specs.Count.{bit}
+use Rattle.lists.specs.Below.{below, everyBelow}
+use Rattle.table.specs.declared.answer.RosterAnswer.{RosterAnswer}
+use Rattle.table.specs.declared.state.Place.{Place}
+use Rattle.table.specs.declared.state.Call.{Call}
+use Rattle.table.specs.declared.state.StandalonePlace.{StandalonePlace}
+use Rattle.table.specs.declared.state.Customer.{Customer}
+use Rattle.table.specs.declared.state.Table.{Table}
+use Rattle.table.specs.Total.{totalOf}
+use Rattle.table.specs.Lists.{customerAt, roster, callAt, entries, placeAt, standalonePlaceAt}
+use Rattle.table.specs.Share.{S}
+use Rattle.table.specs.Rules.{sameBytes}
+use Rattle.table.specs.Roster.{rosterNumber, rosterAnswer, tableFor}
+use Rattle.answers.specs.Answers.{answerNumber}
+use Rattle.spec_calls.specs.Handling.{Handled, handled}
+
+-- ---- rows
+
+-- what holds after a row: the answer's number, S, the number of open calls, and whether calls and connections are as
+-- they were
+pub record Outcome : Type 0 where
+  pub answer : ℕ
+  pub sum : ℕ
+  pub calls : ℕ
+  pub equal : Bool
+
+-- a roster starts anew; or, on the table that the row before left, some messages are handled and then one is looked at
+pub data Row : Type 0 where
+  begin : List ℕ → Outcome → Row
+  ask : List (List ℕ) → List ℕ → Outcome → Row
+
+abbrev pub expected : Row → Outcome
+expected (begin bytes outcome) = outcome
+expected (ask before message outcome) = outcome
+
+-- ---- calls and connections are as they were
+
+abbrev placeNumbers : Place → List ℕ
+placeNumbers p = bit (p .taken) ∷ p .tunnel .0 ∷ p .extended ∷ p .lsp .0 ∷ []
+
+abbrev standalonePlaceNumbers : StandalonePlace → List ℕ
+standalonePlaceNumbers p = bit (p .taken) ∷ p .endpoint ∷ p .tunnel .0 ∷ p .extended ∷ p .lsp .0 ∷ []
+
+-- what a slot says, as numbers, but for the fields of later requests, which a table rule holds at zero
+abbrev callNumbers : Call → List ℕ
+callNumbers c = c .endpoint ∷ c .sender ∷ c .id .0 ∷ c .size ∷ (c .name ++ below (λ j. placeNumbers (placeAt c j)) 4)
+
+abbrev standaloneNumbers : Customer → List ℕ
+standaloneNumbers c = below (λ j. standalonePlaceNumbers (standalonePlaceAt c j)) 4
+
+abbrev unchanged : Table → Table → Bool
+unchanged t u =
+    eqb (t .occupied) (u .occupied)
+    && everyBelow (λ i. sameBytes (callNumbers (callAt t i)) (callNumbers (callAt u i))) (totalOf t)
+    && everyBelow (λ k. sameBytes (standaloneNumbers (customerAt t k)) (standaloneNumbers (customerAt u k))) 8
+
+-- ---- the run
+
+abbrev pub buffer : List ℕ
+buffer = replicate 128 0
+
+abbrev tableThrough : Table → List (List ℕ) → Table
+tableThrough t [] = t
+tableThrough t (s ∷ l) = tableThrough (handled t s buffer .table) l
+
+abbrev outcomeOf : ℕ → Table → Table → Outcome
+outcomeOf answer before after = record {
+  answer = answer;
+  sum = S (roster after) (entries after);
+  calls = length (entries after);
+  equal = unchanged before after;
+}
+
+-- the outcome of a row, and what the rows behind it come to
+abbrev thenRows : Table → ℕ → Table → (Table → List Outcome) → List Outcome
+thenRows before answer after rest = outcomeOf answer before after ∷ rest after
+
+abbrev begun : Table → RosterAnswer → List ℕ → (Table → List Outcome) → List Outcome
+begun t answer bytes rest = thenRows t (rosterNumber answer) (tableFor answer bytes) rest
+
+abbrev asked : Table → Handled → (Table → List Outcome) → List Outcome
+asked t h rest = thenRows t (answerNumber (h .answer)) (h .table) rest
+
+abbrev askedOn : Table → List ℕ → (Table → List Outcome) → List Outcome
+askedOn t message rest = asked t (handled t message buffer) rest
+
+abbrev pub outcomes : Table → List Row → List Outcome
+outcomes t [] = []
+outcomes t (begin bytes outcome ∷ rows) = begun t (rosterAnswer bytes) bytes (λ u. outcomes u rows)
+outcomes t (ask before message outcome ∷ rows) = askedOn (tableThrough t before) message (λ u. outcomes u rows)
+
+-- ---- messages (01, Message layout), with no checksum sent
+
+abbrev object : ℕ → ℕ → List ℕ → List ℕ
+object class ctype body = bytes16 (4 + length body) ++ class ∷ ctype ∷ body
+
+abbrev message : ℕ → List ℕ → List ℕ
+message kind objects = 0x10 ∷ kind ∷ 0 ∷ 0 ∷ 255 ∷ 0 ∷ bytes16 (8 + length objects) ++ objects
+
+abbrev session : ℕ → ℕ → List ℕ
+session call tunnel = object 1 7 (bytes32 0x0a000002 ++ bytes16 call ++ bytes16 tunnel ++ bytes32 0x0a000002)
+
+abbrev template : ℕ → ℕ → List ℕ
+template sender lsp = object 11 7 (bytes32 sender ++ bytes16 0 ++ bytes16 lsp)
+
+-- a Notify with these ADMIN_STATUS bits and a name of one byte
+abbrev notify : ℕ → ℕ → ℕ → ℕ → List ℕ
+notify status sender call name =
+    message 21
+    (session call 0 ++ object 6 1 (replicate 8 0) ++ template sender 0 ++ object 23 1 (bytes32 1 ++ bytes32 7)
+    ++ object 196 1 (bytes32 status) ++ object 207 7 (7 ∷ 7 ∷ 0 ∷ 1 ∷ name ∷ 0 ∷ 0 ∷ 0 ∷ []))
+
+abbrev setup : ℕ → ℕ → ℕ → List ℕ
+setup = notify 0x80000008
+
+abbrev close : ℕ → ℕ → ℕ → List ℕ
+close = notify 0x80000009
+
+abbrev path : ℕ → ℕ → List ℕ
+path sender call = message 1 (session call 1 ++ template sender 1)
+
+abbrev pathTear : ℕ → ℕ → List ℕ
+pathTear sender call = message 5 (session call 1 ++ template sender 1)
+
+-- ---- the two customers
+
+abbrev X : ℕ
+X = 0x0a000001
+
+abbrev Y : ℕ
+Y = 0x0a000003
+
+-- a customer's record: address, guarantee 7 bits, limit 7 bits, 2 spare bits
+abbrev customer : ℕ → ℕ → ℕ → List ℕ
+customer address guarantee limit = bytes32 address ++ bytes16 (guarantee * 512 + limit * 4)
+
+abbrev rosterOf : ℕ → ℕ → ℕ → ℕ → List ℕ
+rosterOf guaranteeX limitX guaranteeY limitY =
+    (0x12 ∷ 0x0a ∷ 0 ∷ 0 ∷ 2 ∷ 0 ∷ 0 ∷ 7 ∷ []) ++ customer X guaranteeX limitX ++ customer Y guaranteeY limitY
+
+-- Y's calls with short IDs n down to 1
+abbrev callsOfY : ℕ → List (List ℕ)
+callsOfY zero = []
+callsOfY (suc n) = setup Y (suc n) (suc n) ∷ callsOfY n
+
+abbrev after : ℕ → ℕ → ℕ → Bool → Outcome
+after answer sum calls equal = record { answer = answer; sum = sum; calls = calls; equal = equal }
+
+unfoldable pub cases : List Row
+cases =
+    -- fresh table: S is 63
+    begin (rosterOf 1 2 62 64) (after 0 63 0 true)
+    -- X's first call: 20, S 63; that setup again: 21, calls and connections equal; X's second: 20, S 64; X's third: 34
+    ∷ ask [] (setup X 1 1) (after 20 63 1 false)
+    ∷ ask [] (setup X 1 1) (after 21 63 1 true)
+    ∷ ask [] (setup X 2 2) (after 20 64 2 false)
+    ∷ ask [] (setup X 3 3) (after 34 64 2 true)
+    -- Y with 62 calls and S 64 asks again: 34; X closes one, Y asks: 20
+    ∷ ask (callsOfY 62) (setup Y 63 63) (after 34 64 64 true)
+    ∷ ask (close X 2 2 ∷ []) (setup Y 63 63) (after 20 64 64 false)
+    -- close under a connection: 32; PathTear with Call ID 9 for a connection under 5: 25; then close: 22, and close
+    -- once more: 33
+    ∷ begin (rosterOf 1 2 62 64) (after 0 63 0 false)
+    ∷ ask (setup X 5 5 ∷ path X 5 ∷ []) (close X 5 5) (after 32 63 1 true)
+    ∷ ask [] (pathTear X 9) (after 25 63 1 false)
+    ∷ ask [] (close X 5 5) (after 22 63 0 false)
+    ∷ ask [] (close X 5 5) (after 33 63 0 true)
+    -- long ID of one call with short ID of another: 31
+    ∷ ask (setup Y 5 5 ∷ setup Y 6 6 ∷ []) (setup Y 6 5) (after 31 63 2 true)
+    -- both limits 64: guarantees 62 + 2 accepted; 62 + 3: 46
+    ∷ begin (rosterOf 2 64 62 64) (after 0 64 0 false)
+    ∷ begin (rosterOf 3 64 62 64) (after 46 0 0 true)
+    ∷ []

@@ -1,0 +1,2 @@
+// The changes that an answer makes to the calls of the table: opened, closed, an own identifier taken.
+pub mod slots;

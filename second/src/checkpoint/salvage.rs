@@ -1,0 +1,101 @@
+//! A13: the records that salvage keeps, in three steps.
+
+use std::collections::HashMap;
+
+use super::layout::{CallRecord, ConnectionRecord};
+use crate::keys::{LongId, Name, ShortId};
+use crate::node::{Node, OpenCall};
+use crate::places::Places;
+use crate::table::{Table, CALLS};
+
+/// The node of the records kept, under the roster whose fresh table is given.
+pub fn salvage(fresh: &Table, calls: &[CallRecord], connections: &[ConnectionRecord]) -> Node {
+    let alone = calls.iter().filter(|record| stands_alone(fresh, record));
+    let alone: Vec<&CallRecord> = alone.collect();
+    let mut node = Node::from_table(fresh).expect("a fresh table breaks no rule");
+    for record in without_duplicates(&alone, connections) {
+        node.keep_call(record);
+    }
+    for record in connections {
+        node.keep_connection(record);
+    }
+    node
+}
+
+/// Step 1: the slot is there, and the table of the roster and this one call breaks no rule.
+fn stands_alone(fresh: &Table, record: &CallRecord) -> bool {
+    let slot = usize::from(record.slot);
+    if slot >= CALLS {
+        return false;
+    }
+    let mut table = *fresh;
+    table.calls[slot] = record.call;
+    table.occupied = 1 << slot;
+    Node::from_table(&table).is_some()
+}
+
+/// Step 2: of the calls with one pair and long ID, the one that most connection records name, the first if equal.
+fn without_duplicates<'a>(calls: &[&'a CallRecord], connections: &[ConnectionRecord]) -> Vec<&'a CallRecord> {
+    let mut named: HashMap<ShortId, usize> = HashMap::new();
+    for record in connections {
+        let short = (record.connection.pair, record.call);
+        *named.entry(short).or_default() += 1;
+    }
+    let mut winners: HashMap<LongId, (usize, usize)> = HashMap::new();
+    for (number, record) in calls.iter().enumerate() {
+        let short = (record.pair(), record.call.id);
+        let names = named.get(&short).copied().unwrap_or(0);
+        let winner = winners.entry(long_id(record)).or_insert((number, names));
+        if names > winner.1 {
+            *winner = (number, names);
+        }
+    }
+    let wins = |line: &(usize, &&CallRecord)| winners[&long_id(line.1)].0 == line.0;
+    let kept = calls.iter().enumerate().filter(wins);
+    kept.map(|(_, &record)| record).collect()
+}
+
+fn long_id(record: &CallRecord) -> LongId {
+    let name = Name {
+        size: record.call.size,
+        bytes: record.call.name,
+    };
+    (record.pair(), name)
+}
+
+impl Node {
+    /// Step 3 for a call: drops it if its slot is taken, its pair has its short ID, or a share rule would break.
+    /// Its long ID is its alone since step 2.
+    fn keep_call(&mut self, record: &CallRecord) {
+        let slot = usize::from(record.slot);
+        let short = (record.pair(), record.call.id);
+        if !self.free.contains(&slot) || self.calls.contains_key(&short) {
+            return;
+        }
+        let customer = self.roster.find(record.call.sender);
+        let customer = customer.expect("listed, or dropped in step 1");
+        self.roster.accounts[customer].open += 1;
+        let account = &self.roster.accounts[customer];
+        if account.open > account.limit || self.roster.share_sum() > CALLS {
+            self.roster.accounts[customer].open -= 1;
+            return;
+        }
+        let (pair, name) = long_id(record);
+        let open = OpenCall {
+            slot,
+            name,
+            places: Places::default(),
+        };
+        self.free.remove(&slot);
+        self.calls.insert(short, open);
+        self.long_ids.insert((pair, name), record.call.id);
+    }
+
+    /// Step 3 for a connection: drops it if it stands already, under whatever Call ID, its sender is not listed, its
+    /// call is not kept, or the four are full.
+    fn keep_connection(&mut self, record: &ConnectionRecord) {
+        if let Some(customer) = self.roster.find(record.connection.pair.sender) {
+            self.put(record.connection, record.call, customer);
+        }
+    }
+}

@@ -1,0 +1,205 @@
+//! 01, "Table rules": from a table to the node's maps, which is the rule check, and back.
+
+use std::collections::{BTreeSet, HashMap};
+
+use crate::keys::{Connection, Name, Pair};
+use crate::node::{Holder, Node, OpenCall, Position};
+use crate::places::Places;
+use crate::roster::Roster;
+use crate::table::{Call, Customer, Place, StandalonePlace, Table, CALLS, NAME};
+
+/// An own epoch is under this.
+const EPOCHS: u32 = 1 << 24;
+
+impl Node {
+    /// None where the table breaks a table rule (answer 1).
+    pub fn from_table(table: &Table) -> Option<Node> {
+        let roster = checked_roster(table)?;
+        let free: BTreeSet<usize> = (0..CALLS).filter(|slot| table.occupied >> slot & 1 == 0).collect();
+        let used = CALLS - free.len();
+        let mut node = Node {
+            address: table.address,
+            epoch: table.epoch,
+            next: table.next,
+            roster,
+            calls: HashMap::with_capacity(used),
+            long_ids: HashMap::with_capacity(used),
+            free,
+            connections: HashMap::new(),
+        };
+        for (slot, call) in table.calls.iter().enumerate() {
+            if !node.free.contains(&slot) {
+                node.insert_call(slot, call)?;
+            } else if *call != Call::FREE {
+                return None;
+            }
+        }
+        for (customer, record) in table.customers[..table.listed.into()].iter().enumerate() {
+            node.insert_standalone(customer, record)?;
+        }
+        (node.roster.share_sum() <= CALLS).then_some(node)
+    }
+
+    /// A used slot: listed sender within its limit, good IDs that its pair has only once, zeros for later requests.
+    fn insert_call(&mut self, slot: usize, call: &Call) -> Option<()> {
+        if call.made || call.refreshed != 0 || call.epoch != 0 || call.identifier != 0 {
+            return None;
+        }
+        let name = checked_name(call)?;
+        let customer = self.roster.find(call.sender)?;
+        let account = &mut self.roster.accounts[customer];
+        if call.id == 0 || account.open == account.limit {
+            return None;
+        }
+        account.open += 1;
+        let pair = Pair {
+            endpoint: call.endpoint,
+            sender: call.sender,
+        };
+        let holder = Holder::Call { id: call.id, slot };
+        let places = self.insert_places(pair, holder, &call.places)?;
+        let open = OpenCall { slot, name, places };
+        let id_twice = self.calls.insert((pair, call.id), open).is_some();
+        let name_twice = self.long_ids.insert((pair, name), call.id).is_some();
+        (!id_twice && !name_twice).then_some(())
+    }
+
+    /// The four of a call.
+    fn insert_places(&mut self, pair: Pair, holder: Holder, four: &[Place]) -> Option<Places> {
+        let mut places = Places::default();
+        for (place, stands) in four.iter().enumerate() {
+            if stands.taken {
+                let connection = Connection {
+                    pair,
+                    tunnel: stands.tunnel,
+                    extended: stands.extended,
+                    lsp: stands.lsp,
+                };
+                self.insert_connection(connection, Position { holder, place })?;
+                places.take(place);
+            } else if *stands != Place::FREE {
+                return None;
+            }
+        }
+        Some(places)
+    }
+
+    /// A customer's four for Call ID 0.
+    fn insert_standalone(&mut self, customer: usize, record: &Customer) -> Option<()> {
+        let holder = Holder::Customer(customer);
+        for (place, stands) in record.places.iter().enumerate() {
+            if stands.taken {
+                let connection = Connection {
+                    pair: Pair {
+                        endpoint: stands.endpoint,
+                        sender: record.address,
+                    },
+                    tunnel: stands.tunnel,
+                    extended: stands.extended,
+                    lsp: stands.lsp,
+                };
+                self.insert_connection(connection, Position { holder, place })?;
+                self.roster.accounts[customer].places.take(place);
+            } else if *stands != StandalonePlace::FREE {
+                return None;
+            }
+        }
+        Some(())
+    }
+
+    /// No connection stands twice, be it under calls or Call ID 0.
+    fn insert_connection(&mut self, connection: Connection, position: Position) -> Option<()> {
+        match self.connections.insert(connection, position) {
+            Some(_) => None,
+            None => Some(()),
+        }
+    }
+
+    pub fn to_table(&self) -> Table {
+        let mut table = Table {
+            address: self.address,
+            epoch: self.epoch,
+            next: self.next,
+            listed: self.roster.accounts.len() as u8,
+            ..Table::EMPTY
+        };
+        for (record, account) in table.customers.iter_mut().zip(&self.roster.accounts) {
+            record.address = account.address;
+            record.guarantee = account.guarantee;
+            record.limit = account.limit;
+        }
+        for (&(pair, id), open) in &self.calls {
+            table.occupied |= 1 << open.slot;
+            let call = &mut table.calls[open.slot];
+            call.endpoint = pair.endpoint;
+            call.sender = pair.sender;
+            call.id = id;
+            call.size = open.name.size;
+            call.name = open.name.bytes;
+        }
+        for (connection, position) in &self.connections {
+            put_connection(&mut table, connection, position);
+        }
+        table
+    }
+}
+
+/// The roster is acceptable, or empty with zeros for address and epoch; unused records are zeros.
+fn checked_roster(table: &Table) -> Option<Roster> {
+    let listed = usize::from(table.listed);
+    let unused = table.customers.get(listed..)?;
+    if unused.iter().any(|record| *record != Customer::UNUSED) {
+        return None;
+    }
+    if listed == 0 && (table.address != 0 || table.epoch != 0) {
+        return None;
+    }
+    if table.epoch >= EPOCHS {
+        return None;
+    }
+    let mut roster = Roster::with_capacity(listed);
+    for record in &table.customers[..listed] {
+        roster.list(record.address, record.guarantee, record.limit).ok()?;
+    }
+    (roster.share_sum() <= CALLS).then_some(roster)
+}
+
+/// A name of 1 to 32 bytes, zeros behind it.
+fn checked_name(call: &Call) -> Option<Name> {
+    let size = usize::from(call.size);
+    if size == 0 || size > NAME || call.name[size..].iter().any(|&byte| byte != 0) {
+        return None;
+    }
+    Some(Name {
+        size: call.size,
+        bytes: call.name,
+    })
+}
+
+fn put_connection(table: &mut Table, connection: &Connection, position: &Position) {
+    let &Connection {
+        pair,
+        tunnel,
+        extended,
+        lsp,
+    } = connection;
+    match position.holder {
+        Holder::Customer(customer) => {
+            table.customers[customer].places[position.place] = StandalonePlace {
+                taken: true,
+                endpoint: pair.endpoint,
+                tunnel,
+                extended,
+                lsp,
+            };
+        }
+        Holder::Call { slot, .. } => {
+            table.calls[slot].places[position.place] = Place {
+                taken: true,
+                tunnel,
+                extended,
+                lsp,
+            };
+        }
+    }
+}
