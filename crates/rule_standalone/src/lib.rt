@@ -131,7 +131,8 @@ fn calls_meet_none(t: Table) -> bool
     while i < SLOTS {
         let c = t.calls[i];
         let used = is_used(t.occupied, i);
-        let mut k: usize = 0;
+        // A free slot has no connections: the customers need not be looked at.
+        let mut k: usize = if used { 0 } else { 8 };
         while k < 8 {
             let m = t.customers[k];
             apart = apart & !(used & ((k < listed) & call_meets(c, m)));

@@ -2,12 +2,13 @@
 use Prim.Native.Nat.{ℕ, _≤_, _-_}
 use native.Mathlib.Omega.{arith}
 use mathlib.Core.Path.{_≡_, refl, sym, _∙_}
-use mathlib.Core.Bool.{Bool, not, _&&_, and-true}
+use mathlib.Core.Logic.{⊎-elim}
+use mathlib.Core.Bool.{Bool, true, false, not, _&&_, and-true}
 use lib.Dec.{ltb}
 use borrow.Author.Needs.{needs}
 use Rattle.lists.specs.Below.{everyBelow}
 use Rattle.lists.specs.Pairs.{meet}
-use Rattle.lists.proofs.Below.{every-none, every-turn}
+use Rattle.lists.proofs.Below.{every-none, every-turn, every-within}
 use Rattle.lists.proofs.Pairs.{inner-turn, meet-lists}
 use Rattle.table.specs.declared.state.Table.{Table}
 use Rattle.table.specs.Word.{isUsed}
@@ -22,6 +23,10 @@ differ t i k = not (isUsed (t .occupied) i && (ltb k (t .listed) && meet sameLsp
 
 abbrev differFromAll : Table → ℕ → Bool
 differFromAll t i = everyBelow (differ t i) 8
+
+-- a free slot has none
+free-differs : (t : Table) (i : ℕ) → isUsed (t .occupied) i ≡ false → differFromAll t i ≡ true
+free-differs t i e = every-within (differ t i) 8 (λ k _. rw e)
 
 abbrev Inv-loop2 : tie.InvT-loop2
 Inv-loop2 t listed apart₀ i c used k₀ apart k = (k ≤ 8) × (apart ≡ (apart₀ && everyBelow (differ t i) k))
@@ -51,7 +56,15 @@ is-used-requires : tie.Need-is-used-requires Inv-loop2 μ-loop2 Inv-loop μ-loop
 is-used-requires c κs = search needs
 
 loop2-holds : tie.Need-loop2-holds Inv-loop2 μ-loop2 Inv-loop μ-loop
-loop2-holds c = (omega arith, sym (rw (every-none _) (and-true _)))
+loop2-holds c =
+    let u = c .before in
+    let a = u .before .before .before in
+    let t = a .before .args .t1 in
+    let i = a .loop .i in
+    ⊎-elim
+    (λ w. (omega arith, rw (w .1, every-none (differ t i)) (sym (and-true _))))
+    (λ w. (omega arith, rw (w .1, free-differs t i (rw (u .is-used .ensures) at (w .0 .left))) (sym (and-true _))))
+    (c .if1 .came)
 
 mul-m : tie.Need-mul-m Inv-loop2 μ-loop2 Inv-loop μ-loop
 mul-m c = search needs
@@ -70,8 +83,8 @@ loop2-less c = search needs
 
 loop2-again : tie.Need-loop2-again Inv-loop2 μ-loop2 Inv-loop μ-loop
 loop2-again c =
-    let l = c .before .before .before in
-    let u = l .before in
+    let l = c .before .before .before .before in
+    let u = l .before .before in
     let a = u .before .before .before in
     (omega arith, inner-turn (differ (a .before .args .t1) (a .loop .i)) (l .loop2 .k) _ (a .loop .apart) _ (l .loop2 .inv .1) (rw (c .call-meets .ensures, u .is-used .ensures)))
 
@@ -85,7 +98,7 @@ loop-again : tie.Need-loop-again Inv-loop2 μ-loop2 Inv-loop μ-loop
 loop-again c =
     let l = c .before in
     let e : l .loop2 .k ≡ 8 = omega arith in
-    (omega arith, rw e at (l .loop2 .inv .1) ∙ every-turn _ _ _ _ (l .before .before .before .before .loop .inv .1) refl)
+    (omega arith, rw e at (l .loop2 .inv .1) ∙ every-turn _ _ _ _ (l .before .before .before .before .before .loop .inv .1) refl)
 
 returns : tie.Need-returns Inv-loop2 μ-loop2 Inv-loop μ-loop
 returns c =
