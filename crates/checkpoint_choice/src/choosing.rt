@@ -1,5 +1,7 @@
 // Which of the calls of one pair and long Call ID is kept. What is asked of each record is computed once, into arrays:
 // a checkpoint has up to 4,095 calls, each of which is compared with all others.
+//
+// Here and below, the records lie within the checkpoint: its size has been tested against its counts.
 ghost use mathlib.Core.Path.{_≡_};
 ghost use Prim.Native.Nat.{_+_, _*_, _<_, _≤_};
 ghost use lib.ListN.{length};
