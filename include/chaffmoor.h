@@ -1,17 +1,29 @@
 /* Chaffmoor: the call side of a light-path node. Link with target/staticlib/libchaffmoor.a (rt staticlib chaffmoor).
  *
- * Every byte string handed in gets an answer by number (docs/ANSWERS.md). The table is plain data of fixed size: it
- * goes in by value and comes back by value, and the caller keeps it between messages. Nothing is allocated, and nothing
- * is kept inside the library.
+ * Every byte string handed in gets an answer by number (docs/ANSWERS.md). The table is plain data of fixed size, 2,238
+ * words of 32 bits. The caller owns it, lends it by pointer with each message and keeps it between messages; the node
+ * changes it in place. Nothing is allocated, and nothing is kept inside the library.
  *
- * Addresses are 32-bit numbers, most significant byte first: 10.0.0.1 is 0x0a000001. Change no field by hand: a table
- * that breaks a table rule (docs/SCOPE.md) is answered 1, and stays as it was.
+ * Of every pointer:
+ * - The table needs an alignment of 4 bytes, the others none.
+ * - The table, the bytes that are read (message, roster, checkpoint) and the buffer that is written may not overlap.
+ * - A pointer that comes with length 0 must not be null either, but nothing is read or written there.
+ * - None is kept after the call returns.
+ *
+ * Addresses are 32-bit numbers, most significant byte first: 10.0.0.1 is 0x0a000001. Words are in the machine's order,
+ * least significant byte first. Change no field by hand: a table that breaks a table rule (docs/SCOPE.md), a value
+ * outside its field included, is answered 1, and stays as it was.
+ *
+ * Stack, the called function's own frames and all below them, as bench/run measures it (docs/MEASURED.md), rounded up:
+ *   chaffmoor_read_roster           512 bytes
+ *   chaffmoor_handle              8,192 bytes
+ *   chaffmoor_write_checkpoint    8,192 bytes
+ *   chaffmoor_read_checkpoint    24,576 bytes
  *
  * The struct layouts are those of the x86-64 System V ABI; the static assertions at the end hold them fast. */
 #ifndef CHAFFMOOR_H
 #define CHAFFMOOR_H
 
-#include <stdbool.h>
 #include <stddef.h>
 #include <stdint.h>
 
@@ -20,77 +32,67 @@ enum {
     CHAFFMOOR_CUSTOMERS = 8,   /* records of a roster */
     CHAFFMOOR_PLACES = 4,      /* connections under a call, and of Call ID 0 with a customer */
     CHAFFMOOR_NAME = 32,       /* bytes of a long Call ID */
+    CHAFFMOOR_WORDS = 2238,    /* words of a table */
     CHAFFMOOR_REPLY = 128      /* a reply buffer has to have this many bytes, or the answer is 2 */
 };
 
-/* A connection under a call. Its end point and sender are the call's. */
+/* A connection, or four zeros where there is none. Its sender and end point are its call's; for Call ID 0 they stand
+ * with its customer. */
 typedef struct {
-    bool taken;
-    uint16_t tunnel;
+    uint32_t taken;            /* 1 or 0 */
+    uint32_t tunnel;           /* 0 to 65,535 */
     uint32_t extended;
-    uint16_t lsp;
+    uint32_t lsp;              /* 0 to 65,535 */
 } chaffmoor_place;
 
-/* A call. Its long Call ID is the first `size` bytes of `name`. `made`, `refreshed`, `epoch` and `identifier` are for
- * later requests: a table rule holds them at zero. */
+/* A call; all zeros in a free slot. Its long Call ID is the first `size` bytes of `name`, zeros behind them. `made`,
+ * `refreshed`, `epoch` and `identifier` are for later requests: a table rule holds them at zero. */
 typedef struct {
     uint32_t endpoint;
     uint32_t sender;
     uint32_t refreshed;
     uint32_t epoch;
     uint32_t identifier;
-    uint16_t id;               /* the short Call ID */
-    bool made;
-    uint8_t size;
+    uint32_t id;               /* the short Call ID, 1 to 65,535 */
+    uint32_t made;
+    uint32_t size;             /* 1 to 32 */
     uint8_t name[CHAFFMOOR_NAME];
     chaffmoor_place places[CHAFFMOOR_PLACES];
 } chaffmoor_call;
 
-/* A connection of Call ID 0. Its sender is the customer. */
-typedef struct {
-    bool taken;
-    uint32_t endpoint;
-    uint16_t tunnel;
-    uint32_t extended;
-    uint16_t lsp;
-} chaffmoor_standalone_place;
-
+/* A record of the roster, with the customer's connections of Call ID 0; all zeros where it is not listed. The
+ * connection in places[j] has the end point endpoints[j], and its sender is the customer. */
 typedef struct {
     uint32_t address;
-    uint8_t guarantee;
-    uint8_t limit;
-    chaffmoor_standalone_place places[CHAFFMOOR_PLACES];
+    uint32_t guarantee;        /* 0 to limit */
+    uint32_t limit;            /* 1 to 64 */
+    uint32_t endpoints[CHAFFMOOR_PLACES];
+    chaffmoor_place places[CHAFFMOOR_PLACES];
 } chaffmoor_customer;
 
 typedef struct {
     uint32_t address;          /* the node's own */
     uint32_t epoch;            /* the node's own, 24 bits */
     uint32_t next;             /* the identifier that the next Notify carries */
-    uint8_t listed;            /* how many of the customers are listed */
-    uint64_t occupied;         /* bit i: slot i of calls is used */
+    uint32_t listed;           /* how many of the customers are listed, 0 to 8 */
+    uint32_t occupied[2];      /* bit i of the first: slot i of calls is used; of the second: slot 32 + i */
     chaffmoor_customer customers[CHAFFMOOR_CUSTOMERS];
     chaffmoor_call calls[CHAFFMOOR_CALLS];
 } chaffmoor_table;
 
-/* What a roster gets: 0 and its fresh table, or 40 to 46 and the empty table. */
-typedef struct {
-    uint8_t answer;
-    chaffmoor_table table;
-} chaffmoor_roster_reply;
+/* Reads a roster of any bytes: 0, and the table is the roster's fresh one; or 40 to 46, and it is the empty one (all
+ * zeros, next 1). What the table held before does not matter. */
+uint8_t chaffmoor_read_roster(chaffmoor_table *table, const uint8_t *roster, size_t roster_length);
 
-/* What a message gets: its answer, the reply's length, 0 where none is sent, and the table from now on. */
+/* What a message gets: its answer, and the reply's length, 0 where none is sent. */
 typedef struct {
     uint8_t answer;
     size_t length;
-    chaffmoor_table table;
 } chaffmoor_message_reply;
 
-/* Reads a roster of any bytes. */
-chaffmoor_roster_reply chaffmoor_read_roster(const uint8_t *roster, size_t roster_length);
-
-/* Handles a message of any bytes. Where a reply is sent, its first `length` bytes are in the buffer; all other bytes of
- * the buffer are as they were. */
-chaffmoor_message_reply chaffmoor_handle(chaffmoor_table table, const uint8_t *message, size_t message_length,
+/* Handles a message of any bytes, and leaves the table as it is from now on. Where a reply is sent, its first `length`
+ * bytes are in the buffer; all other bytes of the buffer are as they were. */
+chaffmoor_message_reply chaffmoor_handle(chaffmoor_table *table, const uint8_t *message, size_t message_length,
                                          uint8_t *reply, size_t reply_length);
 
 /* What writing a checkpoint of the table gets: 0 and its length; 1 where the table breaks a rule, 73 where the buffer
@@ -100,25 +102,77 @@ typedef struct {
     size_t length;
 } chaffmoor_checkpoint_written;
 
-chaffmoor_checkpoint_written chaffmoor_write_checkpoint(chaffmoor_table table, uint8_t *checkpoint,
+chaffmoor_checkpoint_written chaffmoor_write_checkpoint(const chaffmoor_table *table, uint8_t *checkpoint,
                                                         size_t checkpoint_length);
 
-/* What reading a checkpoint under a roster gets: 0, the table and how many records were dropped; or the roster's 40 to
- * 46 and the empty table; or 70, 71, 72 and the roster's fresh table. */
+/* What reading a checkpoint under a roster gets: 0 and how many records were dropped, or a refusal and none. */
 typedef struct {
     uint8_t answer;
     size_t calls;              /* records of calls that are not in the table */
     size_t connections;        /* records of connections that are not in the table */
-    chaffmoor_table table;
 } chaffmoor_checkpoint_read;
 
-chaffmoor_checkpoint_read chaffmoor_read_checkpoint(bool salvage, const uint8_t *roster, size_t roster_length,
-                                                    const uint8_t *checkpoint, size_t checkpoint_length);
+/* Reads a checkpoint of any bytes, with salvage where `salvage` is 1, plainly where it is any other number: 0, and the
+ * table is the one restored; or the roster's 40 to 46, and it is the empty one; or 70, 71, 72, and it is the roster's
+ * fresh one. What the table held before does not matter. */
+chaffmoor_checkpoint_read chaffmoor_read_checkpoint(chaffmoor_table *table, uint32_t salvage, const uint8_t *roster,
+                                                    size_t roster_length, const uint8_t *checkpoint,
+                                                    size_t checkpoint_length);
 
-_Static_assert(sizeof(chaffmoor_place) == 12, "the layout of a place");
-_Static_assert(sizeof(chaffmoor_call) == 104, "the layout of a call");
-_Static_assert(sizeof(chaffmoor_standalone_place) == 20, "the layout of a place for Call ID 0");
-_Static_assert(sizeof(chaffmoor_customer) == 88, "the layout of a customer");
-_Static_assert(sizeof(chaffmoor_table) == 7384, "the layout of a table");
+/* The layouts, in bytes: each field's place, each struct's size. */
+#define CHAFFMOOR_AT(type, field, at) _Static_assert(offsetof(type, field) == (at), "the place of " #type "." #field)
+#define CHAFFMOOR_SIZE(type, size) _Static_assert(sizeof(type) == (size), "the size of " #type)
+
+CHAFFMOOR_AT(chaffmoor_place, taken, 0);
+CHAFFMOOR_AT(chaffmoor_place, tunnel, 4);
+CHAFFMOOR_AT(chaffmoor_place, extended, 8);
+CHAFFMOOR_AT(chaffmoor_place, lsp, 12);
+CHAFFMOOR_SIZE(chaffmoor_place, 16);
+
+CHAFFMOOR_AT(chaffmoor_call, endpoint, 0);
+CHAFFMOOR_AT(chaffmoor_call, sender, 4);
+CHAFFMOOR_AT(chaffmoor_call, refreshed, 8);
+CHAFFMOOR_AT(chaffmoor_call, epoch, 12);
+CHAFFMOOR_AT(chaffmoor_call, identifier, 16);
+CHAFFMOOR_AT(chaffmoor_call, id, 20);
+CHAFFMOOR_AT(chaffmoor_call, made, 24);
+CHAFFMOOR_AT(chaffmoor_call, size, 28);
+CHAFFMOOR_AT(chaffmoor_call, name, 32);
+CHAFFMOOR_AT(chaffmoor_call, places, 64);
+CHAFFMOOR_SIZE(chaffmoor_call, 128);
+
+CHAFFMOOR_AT(chaffmoor_customer, address, 0);
+CHAFFMOOR_AT(chaffmoor_customer, guarantee, 4);
+CHAFFMOOR_AT(chaffmoor_customer, limit, 8);
+CHAFFMOOR_AT(chaffmoor_customer, endpoints, 12);
+CHAFFMOOR_AT(chaffmoor_customer, places, 28);
+CHAFFMOOR_SIZE(chaffmoor_customer, 92);
+
+CHAFFMOOR_AT(chaffmoor_table, address, 0);
+CHAFFMOOR_AT(chaffmoor_table, epoch, 4);
+CHAFFMOOR_AT(chaffmoor_table, next, 8);
+CHAFFMOOR_AT(chaffmoor_table, listed, 12);
+CHAFFMOOR_AT(chaffmoor_table, occupied, 16);
+CHAFFMOOR_AT(chaffmoor_table, customers, 24);
+CHAFFMOOR_AT(chaffmoor_table, calls, 760);
+CHAFFMOOR_SIZE(chaffmoor_table, 8952);
+_Static_assert(sizeof(chaffmoor_table) == 4 * CHAFFMOOR_WORDS, "a table is its words");
+_Static_assert(_Alignof(chaffmoor_table) == 4, "the alignment of a table");
+
+CHAFFMOOR_AT(chaffmoor_message_reply, answer, 0);
+CHAFFMOOR_AT(chaffmoor_message_reply, length, 8);
+CHAFFMOOR_SIZE(chaffmoor_message_reply, 16);
+
+CHAFFMOOR_AT(chaffmoor_checkpoint_written, answer, 0);
+CHAFFMOOR_AT(chaffmoor_checkpoint_written, length, 8);
+CHAFFMOOR_SIZE(chaffmoor_checkpoint_written, 16);
+
+CHAFFMOOR_AT(chaffmoor_checkpoint_read, answer, 0);
+CHAFFMOOR_AT(chaffmoor_checkpoint_read, calls, 8);
+CHAFFMOOR_AT(chaffmoor_checkpoint_read, connections, 16);
+CHAFFMOOR_SIZE(chaffmoor_checkpoint_read, 24);
+
+#undef CHAFFMOOR_AT
+#undef CHAFFMOOR_SIZE
 
 #endif

@@ -1,9 +1,10 @@
 //! Writing and reading checkpoints of tables, and the largest checkpoint that the format allows.
 
-use crate::clock;
+use crate::clock::LONG;
 use crate::inputs::{calls, Calls, Pairs};
 use crate::output::{self, thousands};
 use compare::first;
+use second::table::Table;
 use std::time::Instant;
 
 /// Writes a table's checkpoint and reads it, plain and with salvage. Both programs have to write the same bytes.
@@ -17,15 +18,16 @@ pub fn measure(calls: Calls) {
     let mut one = || first::write_checkpoint(&table, &mut checkpoint).1 as u64;
     let mut two = || second::write_checkpoint(&table, &mut other).1 as u64;
     assert_eq!((one(), two()), (length as u64, length as u64));
-    let times = clock::in_turns(&mut one, &mut two);
+    let times = LONG.in_turns(&mut one, &mut two);
     assert_eq!(checkpoint, other);
     let what = format!("{}, {} bytes", calls.name("0 calls"), thousands(length as u64));
     output::times(&format!("(g) writing a checkpoint, {what}"), times, None);
     for (salvages, mode) in [(false, "plain"), (true, "salvage")] {
-        let mut one = || u64::from(first::read_checkpoint(salvages, &roster, &checkpoint).0);
+        let mut read = Table::EMPTY;
+        let mut one = || u64::from(first::read_checkpoint(&mut read, salvages, &roster, &checkpoint).0);
         let mut two = || u64::from(second::read_checkpoint(salvages, &roster, &checkpoint).0);
         assert_eq!((one(), two()), (0, 0));
-        let times = clock::in_turns(&mut one, &mut two);
+        let times = LONG.in_turns(&mut one, &mut two);
         output::times(&format!("(g) reading a checkpoint, {mode}, {what}"), times, None);
     }
 }
@@ -34,13 +36,14 @@ pub fn measure(calls: Calls) {
 pub fn measure_largest() {
     let roster = calls(64, Pairs::One).roster();
     let checkpoint = largest();
+    let mut table = Table::EMPTY;
     let began = Instant::now();
-    let proved = first::read_checkpoint(true, &roster, &checkpoint);
+    let (answer, calls, connections) = first::read_checkpoint(&mut table, true, &roster, &checkpoint);
     let first_ns = began.elapsed().as_nanos() as f64;
     let began = Instant::now();
     let second = second::read_checkpoint(true, &roster, &checkpoint);
     let second_ns = began.elapsed().as_nanos() as f64;
-    assert!(proved == second, "the two programs differ");
+    assert!((answer, table, calls, connections) == second, "the two programs differ");
     let length = thousands(checkpoint.len() as u64);
     let name = format!("(g) reading the largest checkpoint, salvage, {length} bytes, once");
     output::times(&name, (first_ns, second_ns), None);

@@ -1,6 +1,8 @@
 //! bench [quick]: time per message of the proved program, through its C interface, as a ratio to the second program
 //! doing the same checks, at tables of 64, 32, 16 and 0 calls; then the size of the table and the stack that is used.
 //! With `quick` each is measured once only, to see that it runs.
+//!
+//! bench peer [quick]: the same as a ratio to the yardstick, the tuned peer, at tables of 64, 16 and 0 calls.
 
 mod checkpoints;
 mod clock;
@@ -10,10 +12,18 @@ mod output;
 mod parts;
 mod sizes;
 mod stack;
+mod yardstick;
 
 use inputs::{Calls, Pairs, ALL};
 
 fn main() {
+    match std::env::args().any(|argument| argument == "peer") {
+        true => yardstick::print(),
+        false => beside_the_second(),
+    }
+}
+
+fn beside_the_second() {
     output::head_of_times();
     for calls in ALL {
         messages::rows(calls).iter().for_each(messages::measure);

@@ -2,7 +2,7 @@
 //! reply buffer has 128 bytes and is not cleared between messages; each message gets the table that the one before it
 //! left.
 
-use crate::clock;
+use crate::clock::LONG;
 use crate::inputs::Calls;
 use crate::output;
 use compare::build::{self, Sum};
@@ -13,9 +13,10 @@ use second::Node;
 /// A message and the answer that is due to it.
 pub type Due = (Vec<u8>, u8);
 
-/// A row: its name, the table that it starts from, and the messages that are sent in turns. After the last of them,
-/// the table's calls and connections are those that it started with.
+/// A row: what it is, its name, the table that it starts from, and the messages that are sent in turns. After the last
+/// of them, the table's calls and connections are those that it started with.
 pub struct Row {
+    pub what: &'static str,
     pub name: String,
     pub table: Table,
     pub messages: Vec<Due>,
@@ -26,7 +27,8 @@ pub struct Row {
 pub fn rows(calls: Calls) -> Vec<Row> {
     let last = calls.last();
     let with_last = calls.table_of(0..last + 1, 4);
-    let row = |name: &str, none: &str, table: Table, messages: Vec<Due>| Row {
+    let row = |what: &'static str, name: &str, none: &str, table: Table, messages: Vec<Due>| Row {
+        what,
         name: format!("{name}, {}", calls.name(none)),
         table,
         messages,
@@ -37,21 +39,29 @@ pub fn rows(calls: Calls) -> Vec<Row> {
     let (cut, padded) = (vec![(open[..7].to_vec(), 3)], vec![(wrong_padding(&open), 9)]);
     let none = "0 calls";
     vec![
-        row("(a) retry 21", "1 call, the one retried", with_last, vec![(open, 21)]),
         row(
+            "retry",
+            "(a) retry 21",
+            "1 call, the one retried",
+            with_last,
+            vec![(open, 21)],
+        ),
+        row(
+            "open and close",
             "(b) open 20, close 22",
             "0 calls before and after",
             calls.table_before_last(),
             opened_and_closed,
         ),
         row(
+            "Path and PathTear",
             "(c) Path 23, PathTear 25",
             "1 call, the one of the Path",
             calls.table_of(0..last + 1, 3),
             added_and_removed,
         ),
-        row("(d) refused at 3", none, calls.table(), cut),
-        row("(d) refused at 9", none, calls.table(), padded),
+        row("refused at 3", "(d) refused at 3", none, calls.table(), cut),
+        row("refused at 9", "(d) refused at 9", none, calls.table(), padded),
     ]
 }
 
@@ -72,9 +82,8 @@ pub fn measure(row: &Row) {
     let (mut reply, mut other) = ([0; 128], [0; 128]);
     let mut first = || {
         for (message, due) in &row.messages {
-            let done = first::handle(&one, message, &mut reply);
+            let done = first::handle(&mut one, message, &mut reply);
             assert_eq!(done.0, *due);
-            one = done.2;
         }
         u64::from(one.next)
     };
@@ -86,7 +95,7 @@ pub fn measure(row: &Row) {
         }
         u64::from(two.next)
     };
-    let (proved, checked) = clock::in_turns(&mut first, &mut second);
+    let (proved, checked) = LONG.in_turns(&mut first, &mut second);
     let unchecked = unchecked(row) / count;
     output::times(&row.name, (proved / count, checked / count), Some(unchecked));
 }
@@ -102,5 +111,5 @@ fn unchecked(row: &Row) -> f64 {
         }
         lengths
     };
-    clock::alone(&mut run)
+    LONG.alone(&mut run)
 }

@@ -17,6 +17,22 @@ pub fn times(input: &str, (proved, second): (f64, f64), unchecked: Option<f64>) 
     );
 }
 
+/// Above the rows of the proved program beside the peer.
+pub fn head_of_ratios() {
+    println!("| input | calls | pairs | proved, ns | peer, ns | ratio |");
+    println!("|---|---|---|---|---|---|");
+}
+
+/// Nanoseconds of both at a table of so many calls and address pairs.
+pub fn ratio(input: &str, (calls, pairs): (u32, u32), (proved, peer): (f64, f64)) {
+    let ratio = proved / peer;
+    println!(
+        "| {input} | {calls} | {pairs} | {} | {} | {ratio:.2} |",
+        whole(proved),
+        whole(peer)
+    );
+}
+
 /// Above the rows of sizes.
 pub fn head_of_sizes() {
     println!();

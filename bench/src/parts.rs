@@ -1,6 +1,6 @@
 //! The proved program's reading and rule check by themselves (crates/bench_parts), beside the second program's.
 
-use crate::clock;
+use crate::clock::LONG;
 use crate::inputs::{self, Calls};
 use crate::output;
 use compare::build::{self, Fields, Header, Sum};
@@ -9,7 +9,7 @@ use second::Node;
 
 extern "C" {
     fn chaffmoor_part_read(message: *const u8, length: usize) -> u8;
-    fn chaffmoor_part_rules(table: Table) -> bool;
+    fn chaffmoor_part_rules(table: *const Table) -> bool;
 }
 
 /// The fault of form that the bytes alone show, 0 where there is none.
@@ -18,9 +18,10 @@ fn read(message: &[u8]) -> u8 {
     unsafe { chaffmoor_part_read(message.as_ptr(), message.len()) }
 }
 
-fn rules_hold(table: &Table) -> bool {
-    // SAFETY: a table is plain data and goes in by value.
-    unsafe { chaffmoor_part_rules(*table) }
+/// Whether the proved program's rule check holds.
+pub fn rules_hold(table: &Table) -> bool {
+    // SAFETY: the pointer is good for a table, and the library only reads it.
+    unsafe { chaffmoor_part_rules(table) }
 }
 
 /// The rule check of a table.
@@ -30,7 +31,7 @@ pub fn measure_rules(calls: Calls) {
     let mut second = || u64::from(Node::from_table(&table).is_some());
     assert_eq!((first(), second()), (1, 1));
     let name = format!("(e) rule check alone, {}", calls.name("0 calls"));
-    output::times(&name, clock::in_turns(&mut first, &mut second), None);
+    output::times(&name, LONG.in_turns(&mut first, &mut second), None);
 }
 
 /// Reading messages, each of which is read to its end.
@@ -40,7 +41,7 @@ pub fn measure_reading() {
         let mut second = || u64::from(second::read_message(&message).err().unwrap_or(0));
         assert_eq!((first(), second()), (0, 0));
         let name = format!("(f) reading alone, {name}");
-        output::times(&name, clock::in_turns(&mut first, &mut second), None);
+        output::times(&name, LONG.in_turns(&mut first, &mut second), None);
     }
 }
 

@@ -15,25 +15,29 @@ pub fn print() {
     for row in messages::rows(full) {
         output::size(&format!("stack, {}", row.name), stack_of(&row));
     }
-    let (roster, table) = (full.roster(), full.table());
+    let (roster, mut table) = (full.roster(), full.table());
+    let used = stack::used(|| {
+        black_box(first::read_roster(&mut table, &roster));
+    });
+    output::size("stack, reading a roster", used);
+    let mut table = full.table();
     let (mut checkpoint, mut length) = (vec![0; 10_000], 0);
     let used = stack::used(|| length = first::write_checkpoint(&table, &mut checkpoint).1);
     output::size("stack, writing a checkpoint, 64 calls", used);
     let used = stack::used(|| {
-        black_box(first::read_checkpoint(true, &roster, &checkpoint[..length]));
+        black_box(first::read_checkpoint(&mut table, true, &roster, &checkpoint[..length]));
     });
     output::size("stack, reading a checkpoint, salvage, 64 calls", used);
 }
 
 /// The most that one of the row's messages uses.
-fn stack_of(row: &Row) -> usize {
+pub fn stack_of(row: &Row) -> usize {
     let (mut table, mut most) = (row.table, 0);
     for (message, due) in &row.messages {
-        let mut reply = [0; 128];
-        let mut done = (0, 0, table);
-        let used = stack::used(|| done = first::handle(&table, message, &mut reply));
+        let (mut reply, mut done) = ([0; 128], (0, 0));
+        let used = stack::used(|| done = first::handle(&mut table, message, &mut reply));
         assert_eq!(done.0, *due);
-        (table, most) = (done.2, most.max(used));
+        most = most.max(used);
     }
     most
 }

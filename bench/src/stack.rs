@@ -6,7 +6,7 @@ use std::hint::black_box;
 const SIZE: usize = 512 * 1024;
 const PAINT: u8 = 0xa5;
 
-/// Bytes of stack that `run` used below the caller's frame.
+/// Bytes of stack that `run` used, its caller's frame included.
 pub fn used(run: impl FnOnce() + Send) -> usize {
     let used = std::thread::scope(|scope| {
         let thread = std::thread::Builder::new().stack_size(4 * SIZE);
@@ -19,6 +19,7 @@ pub fn used(run: impl FnOnce() + Send) -> usize {
 
 #[inline(never)]
 fn below(run: impl FnOnce()) -> usize {
+    let top = 0u8;
     let base = paint();
     run();
     let mut untouched = 0;
@@ -26,7 +27,7 @@ fn below(run: impl FnOnce()) -> usize {
     while untouched < SIZE && unsafe { std::ptr::read_volatile((base + untouched) as *const u8) } == PAINT {
         untouched += 1;
     }
-    SIZE - untouched
+    black_box(&raw const top) as usize - (base + untouched)
 }
 
 #[inline(never)]

@@ -1,7 +1,9 @@
-//! One input through both programs: answer, length, every byte of the buffer, every field of the table.
+//! One input through both programs: answer, length, every byte of the buffer, every word of the table. Messages go
+//! through the yardstick as well.
 
 use crate::difference;
 use crate::first;
+use crate::layout::{words, words_mut, Lent};
 use crate::random::Random;
 use second::table::Table;
 use second::Node;
@@ -33,7 +35,9 @@ pub fn message(tables: (&Table, &Table), message: &[u8], buffer: usize, random: 
     let old = random.bytes(buffer + 2 * GUARD);
     let (mut one, mut other) = (old.clone(), old.clone());
     let lent = GUARD..GUARD + buffer;
-    let first = first::handle(tables.0, message, &mut one[lent.clone()]);
+    let mut table = Lent::new(tables.0);
+    let first = first::handle(&mut table.table, message, &mut one[lent.clone()]);
+    table.check()?;
     let second = AssertUnwindSafe(|| second::handle(tables.1, message, &mut other[lent]));
     let second = catch_unwind(second).map_err(|_| format!("answers: first {}, second panics", first.0))?;
     if (first.0, first.1) != (second.0, second.1) {
@@ -44,15 +48,36 @@ pub fn message(tables: (&Table, &Table), message: &[u8], buffer: usize, random: 
     }
     let answers = format!("answers: both {} length {}", first.0, first.1);
     same_buffers(&one, &other, &old, first.1).map_err(|what| format!("{answers}; {what}"))?;
-    same_tables(&first.2, &second.2).map_err(|what| format!("{answers}; {what}"))?;
-    Ok(Done {
+    same_tables(&table.table, &second.2).map_err(|what| format!("{answers}; {what}"))?;
+    let done = Done {
         answer: first.0,
         length: first.1,
-        first: first.2,
+        first: table.table,
         second: second.2,
         old,
         buffer: one,
-    })
+    };
+    yardstick(tables.1, message, &done).map_err(|what| format!("{answers}; the peer: {what}"))?;
+    Ok(done)
+}
+
+/// The same message to the benchmark's peer, which has to do the same, so that it is known what is measured.
+fn yardstick(table: &Table, message: &[u8], done: &Done) -> Result<(), String> {
+    let (mut table, mut reply) = (*table, done.old.clone());
+    let end = reply.len() - GUARD;
+    let answered = AssertUnwindSafe(|| peer::handle(words_mut(&mut table), message, &mut reply[GUARD..end]));
+    let (answer, length) = catch_unwind(answered).map_err(|_| "panics")?;
+    if (answer, length) != (done.answer, done.length) {
+        return Err(format!("{answer} length {length}"));
+    }
+    if let Some(found) = difference::of_bytes(&done.buffer, &reply, GUARD) {
+        return Err(format!("its buffer, {found}"));
+    }
+    same_tables(&done.first, &table)?;
+    match peer::rules_hold(words(&done.first)) == (answer != 1) {
+        true => Ok(()),
+        false => Err("its rule check says otherwise".into()),
+    }
 }
 
 /// The buffers are equal, and hold their old bytes but in the reply or checkpoint.
@@ -74,16 +99,25 @@ pub fn same_tables(first: &Table, second: &Table) -> Result<(), String> {
     }
 }
 
-/// A roster to both programs: the answer and the two tables.
-pub fn roster(bytes: &[u8]) -> Result<(u8, Table, Table), String> {
-    let first = first::read_roster(bytes);
+/// A roster to both programs: the answer and the two tables. The first one's table holds any words before.
+pub fn roster(bytes: &[u8], random: &mut Random) -> Result<(u8, Table, Table), String> {
+    let mut table = Lent::new(&any_table(random));
+    let answer = first::read_roster(&mut table.table, bytes);
+    table.check()?;
     let second =
-        catch_unwind(|| second::read_roster(bytes)).map_err(|_| format!("roster: first {}, second panics", first.0))?;
-    if first.0 != second.0 {
-        return Err(format!("roster: first {}, second {}", first.0, second.0));
+        catch_unwind(|| second::read_roster(bytes)).map_err(|_| format!("roster: first {answer}, second panics"))?;
+    if answer != second.0 {
+        return Err(format!("roster: first {answer}, second {}", second.0));
     }
-    same_tables(&first.1, &second.1).map_err(|what| format!("roster: both {}; {what}", first.0))?;
-    Ok((first.0, first.1, second.1))
+    same_tables(&table.table, &second.1).map_err(|what| format!("roster: both {answer}; {what}"))?;
+    Ok((answer, table.table, second.1))
+}
+
+/// Any words.
+pub(crate) fn any_table(random: &mut Random) -> Table {
+    let mut table = Table::EMPTY;
+    words_mut(&mut table).fill_with(|| random.word());
+    table
 }
 
 /// The same message to a node of the second program that stands since the stream's start: it has to do the same.

@@ -2,7 +2,7 @@
 //! elsewhere in the table.
 
 use crate::random::Random;
-use second::table::{Call, Customer, Place, StandalonePlace, Table};
+use second::table::{Call, Customer, Place, Table};
 
 pub fn one_field(table: &mut Table, random: &mut Random) {
     let (customers, calls) = (table.customers, table.calls);
@@ -10,10 +10,10 @@ pub fn one_field(table: &mut Table, random: &mut Random) {
         0 => number(&mut table.listed, &[8, 9], random),
         1 => number(&mut table.epoch, &[1 << 24], random),
         2 => number(&mut table.address, &[], random),
-        3 => table.occupied ^= 1 << random.below(64),
+        3 => table.occupied[random.below(2)] ^= 1 << random.below(32),
         4 => number(&mut table.next, &[], random),
         5..=8 => {
-            let listed = usize::from(table.listed).clamp(1, 8);
+            let listed = (table.listed as usize).clamp(1, 8);
             let end = *random.pick(&[listed, 8]);
             let place = random.below(end);
             of_customer(&mut table.customers[place], random.pick(&customers), random);
@@ -27,14 +27,18 @@ pub fn one_field(table: &mut Table, random: &mut Random) {
 }
 
 fn of_customer(customer: &mut Customer, other: &Customer, random: &mut Random) {
-    match random.below(4) {
+    let place = random.below(4);
+    match random.below(6) {
         0 => number(&mut customer.address, &[other.address], random),
         1 => number(&mut customer.guarantee, &[other.guarantee, customer.limit], random),
         2 => number(&mut customer.limit, &[other.limit, customer.guarantee, 64], random),
-        _ => {
-            let place = random.below(4);
-            of_standalone(&mut customer.places[place], random.pick(&other.places), random);
+        3 => number(&mut customer.endpoints[place], &other.endpoints, random),
+        4 => {
+            let from = random.below(4);
+            customer.places[place] = other.places[from];
+            customer.endpoints[place] = other.endpoints[from];
         }
+        _ => of_place(&mut customer.places[place], random.pick(&other.places), random),
     }
 }
 
@@ -42,13 +46,13 @@ fn of_call(call: &mut Call, other: &Call, random: &mut Random) {
     match random.below(12) {
         0 => number(&mut call.endpoint, &[other.endpoint], random),
         1 => number(&mut call.sender, &[other.sender], random),
-        2 => number(&mut call.id, &[other.id], random),
+        2 => number(&mut call.id, &[other.id, 1 << 16], random),
         3 => number(&mut call.size, &[other.size, 32, 33], random),
         4 => number(random_byte(&mut call.name, random), &[], random),
         5 => number(&mut call.refreshed, &[1 << 31], random),
         6 => number(&mut call.epoch, &[1 << 24], random),
         7 => number(&mut call.identifier, &[1 << 31], random),
-        8 => call.made = !call.made,
+        8 => number(&mut call.made, &[1, 2], random),
         _ => {
             let place = random.below(4);
             of_place(&mut call.places[place], random.pick(&other.places), random);
@@ -63,21 +67,10 @@ fn random_byte<'a>(bytes: &'a mut [u8], random: &mut Random) -> &'a mut u8 {
 
 fn of_place(place: &mut Place, other: &Place, random: &mut Random) {
     match random.below(5) {
-        0 => place.taken = !place.taken,
-        1 => number(&mut place.tunnel, &[other.tunnel], random),
+        0 => number(&mut place.taken, &[1, 2], random),
+        1 => number(&mut place.tunnel, &[other.tunnel, 1 << 16], random),
         2 => number(&mut place.extended, &[other.extended], random),
-        3 => number(&mut place.lsp, &[other.lsp], random),
-        _ => *place = *other,
-    }
-}
-
-fn of_standalone(place: &mut StandalonePlace, other: &StandalonePlace, random: &mut Random) {
-    match random.below(6) {
-        0 => place.taken = !place.taken,
-        1 => number(&mut place.endpoint, &[other.endpoint], random),
-        2 => number(&mut place.tunnel, &[other.tunnel], random),
-        3 => number(&mut place.extended, &[other.extended], random),
-        4 => number(&mut place.lsp, &[other.lsp], random),
+        3 => number(&mut place.lsp, &[other.lsp, 1 << 16], random),
         _ => *place = *other,
     }
 }

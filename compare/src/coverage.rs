@@ -6,7 +6,7 @@ use crate::rosters::Shape;
 use crate::source::Made;
 use crate::tables;
 use crate::tally::Tally;
-use second::table::Table;
+use second::table::{Place, Table};
 
 pub const SITUATIONS: &[&str] = &[
     "setup with S 64: one customer 64 of 64",
@@ -147,10 +147,11 @@ fn opened(step: &Step, tally: &mut Tally) {
     if tables::in_use(step.before, (pair.1, pair.0), fields.call, name) == (true, true) {
         tally.situation("20 with the IDs of a call of the swapped pair");
     }
-    if tables::calls(step.before).any(|call| call.id == fields.call && tables::name(call) == name) {
+    if tables::calls(step.before).any(|call| call.id == fields.call.into() && tables::name(call) == name) {
         tally.situation("20 with the IDs of a call of another pair");
     }
-    if step.before.occupied > step.done.first.occupied ^ step.before.occupied {
+    let (before, after) = (tables::occupied(step.before), tables::occupied(&step.done.first));
+    if before > before ^ after {
         tally.situation("20 into a slot below a used one");
     }
 }
@@ -192,9 +193,10 @@ fn held(step: &Step, tally: &mut Tally) {
 fn added(step: &Step, tally: &mut Tally) {
     let (before, after) = (step.before, &step.done.first);
     let calls = before.calls.iter().zip(&after.calls);
-    let fours = calls.map(|(old, new)| (old.places.map(|p| p.taken), new.places.map(|p| p.taken)));
+    let marks = |places: &[Place; 4]| [0, 1, 2, 3].map(|place: usize| tables::is_taken(&places[place]));
+    let fours = calls.map(|(old, new)| (marks(&old.places), marks(&new.places)));
     let customers = before.customers.iter().zip(&after.customers);
-    let standalone = customers.map(|(old, new)| (old.places.map(|p| p.taken), new.places.map(|p| p.taken)));
+    let standalone = customers.map(|(old, new)| (marks(&old.places), marks(&new.places)));
     let below = |(old, new): ([bool; 4], [bool; 4])| {
         let taken = (0..4).find(|&place| old[place] != new[place]);
         taken.is_some_and(|place| old[place + 1..].contains(&true))

@@ -19,11 +19,8 @@ fn of_customers(first: &Customer, second: &Customer) -> Option<String> {
     differ("address", &first.address, &second.address)
         .or_else(|| differ("guarantee", &first.guarantee, &second.guarantee))
         .or_else(|| differ("limit", &first.limit, &second.limit))
-        .or_else(|| {
-            each("places", &first.places, &second.places, |one, other| {
-                differ("place", one, other)
-            })
-        })
+        .or_else(|| differ("endpoints", &first.endpoints, &second.endpoints))
+        .or_else(|| each("places", &first.places, &second.places, of_places))
 }
 
 fn of_calls(first: &Call, second: &Call) -> Option<String> {
@@ -77,12 +74,12 @@ mod tests {
         other.calls[63].places[3].lsp = 0x12;
         let found = of_tables(&EMPTY, &other).expect("a difference");
         assert_eq!(found, "calls[63].places[3].lsp: first 0, second 12");
-        other.calls[63].made = true;
+        other.calls[63].made = 1;
         let found = of_tables(&EMPTY, &other).expect("a difference");
-        assert_eq!(found, "calls[63].made: first false, second true");
-        other.customers[7].places[2].endpoint = 1;
+        assert_eq!(found, "calls[63].made: first 0, second 1");
+        other.customers[7].endpoints[2] = 1;
         let found = of_tables(&EMPTY, &other).expect("a difference");
-        assert!(found.starts_with("customers[7].places[2].place: "));
+        assert_eq!(found, "customers[7].endpoints: first [0, 0, 0, 0], second [0, 0, 1, 0]");
         other.next = 2;
         assert_eq!(of_tables(&EMPTY, &other), Some("next: first 1, second 2".into()));
     }

@@ -30,7 +30,7 @@ impl Full {
     pub fn new(random: &mut Random) -> Result<Full, String> {
         let roster = rosters::shaped(Shape::Eight, random);
         let values = Values::new(&roster, random);
-        let (_, first, second) = both::roster(&roster.bytes())?;
+        let (_, first, second) = both::roster(&roster.bytes(), random)?;
         let fresh = Tables { first, second };
         let mut full = fresh;
         for record in &roster.records {

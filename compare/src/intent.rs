@@ -156,7 +156,7 @@ fn opening(intent: Intent, mut fields: Fields, values: &Values, table: &Table, r
     };
     match intent {
         OpenAgain => take_ids(&mut fields, &call),
-        OpenShortUsed => fields.call = call.id,
+        OpenShortUsed => fields.call = call.id as u16,
         OpenLongUsed => fields.name = tables::name(&call).to_vec(),
         OpenCrossed => cross_ids(&mut fields, &call, table, random),
         OpenSwapped => return swapped(fields, table, random),
@@ -198,7 +198,7 @@ fn unused(mut fields: Fields, values: &Values, table: &Table, random: &mut Rando
 }
 
 fn closing(intent: Intent, mut fields: Fields, table: &Table, random: &mut Random) -> Fields {
-    let idle = |call: &&Call| call.places.iter().all(|place| !place.taken);
+    let idle = |call: &&Call| !call.places.iter().any(tables::is_taken);
     let idle: Vec<Call> = tables::calls(table).filter(idle).copied().collect();
     let call = match intent {
         CloseIdle if !idle.is_empty() => Some(*random.pick(&idle)),
@@ -233,7 +233,7 @@ fn connecting(intent: Intent, mut fields: Fields, values: &Values, table: &Table
         (PathCrowded, _) => crowd(&mut fields, values, table, random),
         (PathNew, Some(call)) => {
             take_pair(&mut fields, &call);
-            fields.call = call.id;
+            fields.call = call.id as u16;
         }
         (PathUnknown, Some(call)) => take_pair(&mut fields, &call),
         _ if random.chance(1, 4) => fields.call = 0,
@@ -282,11 +282,11 @@ fn beside(fields: Fields, table: &Table, random: &mut Random) -> Fields {
 /// One more connection where there are most already: under the fullest call, or with a customer.
 fn crowd(fields: &mut Fields, values: &Values, table: &Table, random: &mut Random) {
     fields.lsp = random.half();
-    let places = |call: &&Call| call.places.iter().filter(|place| place.taken).count();
+    let places = |call: &&Call| call.places.iter().filter(|place| tables::is_taken(place)).count();
     match tables::calls(table).max_by_key(places) {
         Some(call) if random.chance(1, 2) => {
             take_pair(fields, call);
-            fields.call = call.id;
+            fields.call = call.id as u16;
         }
         _ => {
             fields.call = 0;
@@ -301,7 +301,7 @@ fn take_pair(fields: &mut Fields, call: &Call) {
 }
 
 fn take_ids(fields: &mut Fields, call: &Call) {
-    fields.call = call.id;
+    fields.call = call.id as u16;
     fields.name = tables::name(call).to_vec();
 }
 
@@ -309,7 +309,7 @@ fn take_ids(fields: &mut Fields, call: &Call) {
 fn cross_ids(fields: &mut Fields, call: &Call, table: &Table, random: &mut Random) {
     let pair = |other: &&Call| other.endpoint == call.endpoint && other.sender == call.sender;
     let of_pair: Vec<&Call> = tables::calls(table).filter(pair).collect();
-    fields.call = of_pair[random.below(of_pair.len())].id;
+    fields.call = of_pair[random.below(of_pair.len())].id as u16;
     fields.name = tables::name(of_pair[random.below(of_pair.len())]).to_vec();
 }
 

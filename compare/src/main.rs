@@ -66,10 +66,11 @@ fn compared(arguments: &Arguments) -> Result<String, String> {
     tally.print();
     enough(tally.lacking())?;
     Ok(format!(
-        "compared {} messages, {} rosters, {} broken tables: equal",
+        "compared {} messages, {} rosters, {} broken tables, {} changed words: equal",
         tally.compared,
         tally.roster_total(),
-        tally.broken_total()
+        tally.broken_total(),
+        tally.word_total()
     ))
 }
 

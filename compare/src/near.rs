@@ -3,7 +3,7 @@
 use crate::breaks::tools::*;
 use crate::breaks::Break;
 use crate::random::Random;
-use crate::tables::{self, EMPTY, FREE_CALL, UNUSED};
+use crate::tables::{self, EMPTY, FREE_CALL};
 use second::table::{Place, Table};
 
 pub const NEAR_MISSES: &[(&str, Break)] = &[
@@ -130,7 +130,7 @@ fn standalone_elsewhere(table: &mut Table, random: &mut Random) -> bool {
     let endpoint = fresh_endpoint(table, random);
     let call = table.calls[slot];
     let customer = customer_of(table, call.sender);
-    table.customers[customer].places[random.below(4)] = standalone(&call.places[place], endpoint);
+    set_standalone(table, customer, random.below(4), (call.places[place], endpoint));
     true
 }
 
@@ -140,10 +140,9 @@ fn standalone_twice(table: &mut Table, random: &mut Random) -> bool {
     };
     let place = some_standalone(table, customer, random);
     let endpoint = fresh_endpoint(table, random);
-    let places = &mut table.customers[customer].places;
     let other = (place + random.between(1, 3)) % 4;
-    places[other] = places[place];
-    places[other].endpoint = endpoint;
+    let copy = table.customers[customer].places[place];
+    set_standalone(table, customer, other, (copy, endpoint));
     true
 }
 
@@ -152,9 +151,9 @@ fn standalone_of_another(table: &mut Table, random: &mut Random) -> bool {
         return false;
     };
     let fresh = fresh_place(table, random);
-    let copy = standalone(&fresh, fresh_endpoint(table, random));
-    table.customers[one].places[random.below(4)] = copy;
-    table.customers[other].places[random.below(4)] = copy;
+    let copy = (fresh, fresh_endpoint(table, random));
+    set_standalone(table, one, random.below(4), copy);
+    set_standalone(table, other, random.below(4), copy);
     true
 }
 
@@ -165,8 +164,8 @@ fn zero_standalone(table: &mut Table, random: &mut Random) -> bool {
         return false;
     };
     keep_calls(table, |_, call| call.sender != 0);
-    table.customers[customer].places = UNUSED.places;
-    table.customers[customer].places[random.below(4)].taken = true;
+    drop_standalone_of(table, customer);
+    table.customers[customer].places[random.below(4)].taken = 1;
     true
 }
 
@@ -177,7 +176,7 @@ fn zero_under(table: &mut Table, random: &mut Random) -> bool {
     };
     table.calls[slot].endpoint = fresh_endpoint(table, random);
     table.calls[slot].places = FREE_CALL.places;
-    table.calls[slot].places[random.below(4)].taken = true;
+    table.calls[slot].places[random.below(4)].taken = 1;
     true
 }
 
@@ -214,7 +213,8 @@ fn moved(table: &mut Table, random: &mut Random) -> bool {
     };
     let to = *random.pick(&free);
     table.calls.swap(from, to);
-    table.occupied ^= 1 << from | 1 << to;
+    tables::set_used(table, from, false);
+    tables::set_used(table, to, true);
     true
 }
 
@@ -244,7 +244,7 @@ fn calls_at_limit(table: &mut Table, random: &mut Random) -> bool {
         return false;
     };
     let one = &mut table.customers[customer];
-    one.limit = count as u8;
+    one.limit = count as u32;
     one.guarantee = one.guarantee.min(one.limit);
     true
 }
@@ -272,7 +272,7 @@ fn far_ids(table: &mut Table, random: &mut Random) -> bool {
     };
     let endpoint = fresh_endpoint(table, random);
     let call = &mut table.calls[slot];
-    (call.endpoint, call.id) = (endpoint, u16::MAX);
+    (call.endpoint, call.id) = (endpoint, u16::MAX.into());
     set_name(call, b"\0");
     true
 }

@@ -177,7 +177,8 @@ fn share(roster: &mut Roster, random: &mut Random) {
         0 => (record.guarantee, record.limit) = (0, 0),
         1 => record.limit = 65,
         2 => record.limit = random.between(65, 127) as u8,
-        _ => record.guarantee = random.between(usize::from(record.limit) + 1, 127) as u8,
+        // A limit of 127 was spoiled before, and nothing of seven bits is above it.
+        _ => record.guarantee = random.between(usize::from(record.limit).min(126) + 1, 127) as u8,
     }
 }
 

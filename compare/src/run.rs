@@ -1,7 +1,7 @@
-//! The whole comparison: rosters, streams of messages, broken tables, captures.
+//! The whole comparison: rosters, streams of messages, broken tables, every word of some tables, captures.
 
 use crate::both;
-use crate::breaks;
+use crate::breaks::{self, Break};
 use crate::captures;
 use crate::coverage::SITUATIONS;
 use crate::form;
@@ -10,23 +10,27 @@ use crate::near::NEAR_MISSES;
 use crate::random::Random;
 use crate::rosters::MAKERS;
 use crate::stream::Stream;
+use crate::tables;
 use crate::tally::Tally;
 use crate::trials::{hex, Trials};
+use second::table::Table;
 
 /// Rosters compared by themselves, those that the streams start from not counted.
 const ROSTERS: usize = 26_000;
+
+/// Numbers of the streams whose tables are changed word by word.
+const WORD_STREAMS: u64 = 1 << 32;
 
 /// How often the full table is broken in every way.
 const FULL_TABLES: usize = 100;
 
 pub fn all(seed: u64, messages: u64, captured: Option<&str>) -> Result<Tally, String> {
-    let breakings: Vec<&str> = breaks::all().map(|line| line.0).collect();
-    let near: Vec<&str> = NEAR_MISSES.iter().map(|line| line.0).collect();
-    let mut tally = Tally::new(SITUATIONS, &breakings, &near);
+    let mut tally = Tally::new(SITUATIONS, &names(breaks::all()), &names(NEAR_MISSES.iter()));
     let mut random = Random::of_part(seed, u64::MAX);
     rosters(seed, &mut random, &mut tally)?;
     streams(seed, messages, &mut tally)?;
     full_tables(seed, &mut random, &mut tally)?;
+    every_word(seed, &mut random, &mut tally)?;
     if let Some(text) = captured {
         let count = captures::run(text, &mut random, &mut tally)?;
         println!("{count} captured messages, each with a fresh and a full table");
@@ -34,12 +38,16 @@ pub fn all(seed: u64, messages: u64, captured: Option<&str>) -> Result<Tally, St
     Ok(tally)
 }
 
+fn names(lines: impl Iterator<Item = &'static (&'static str, Break)>) -> Vec<&'static str> {
+    lines.map(|line| line.0).collect()
+}
+
 fn rosters(seed: u64, random: &mut Random, tally: &mut Tally) -> Result<(), String> {
     for number in 0..ROSTERS {
         let (due, maker) = MAKERS[number % MAKERS.len()];
         let bytes = maker(random);
         let place = || format!("seed {seed}, roster {number}: {}", hex(&bytes));
-        let (answer, ..) = both::roster(&bytes).map_err(|what| format!("{}\n{what}", place()))?;
+        let (answer, ..) = both::roster(&bytes, random).map_err(|what| format!("{}\n{what}", place()))?;
         let read = form::roster(&bytes);
         if read != answer || due.is_some_and(|due| due != answer) {
             return Err(format!("{}\nboth answer {answer}, {read} due", place()));
@@ -65,6 +73,44 @@ fn full_tables(seed: u64, random: &mut Random, tally: &mut Tally) -> Result<(), 
     Ok(())
 }
 
+/// Every word with every value: of the empty table and a fresh one, both twice, for they have little of some kinds; of
+/// two with calls, connections and free places; of a full one.
+fn every_word(seed: u64, random: &mut Random, tally: &mut Tally) -> Result<(), String> {
+    for _ in 0..2 {
+        words_of(seed, 0, |table| table.listed == 0, tally)?;
+        words_of(seed, 0, |table| (1..8).contains(&table.listed), tally)?;
+    }
+    for calls in [8..24, 24..56] {
+        let mixed = |table: &Table| {
+            let held = tables::held(table);
+            let standalone = held.iter().filter(|held| held.call == 0).count();
+            (2..8).contains(&table.listed) && calls.contains(&tables::used(table).len()) && standalone > 1
+        };
+        words_of(seed, 300, mixed, tally)?;
+    }
+    let full = Full::new(random)?;
+    let mut trials = Trials {
+        table: &full.full.first,
+        values: &full.values,
+        random,
+        tally,
+    };
+    let tried = trials.every_word();
+    tried.map_err(|what| format!("seed {seed}, full table, {what}\nroster {}", hex(&full.roster)))
+}
+
+/// Every word of the first table that a stream of this many messages leads to and that is wanted.
+fn words_of(seed: u64, messages: u64, wanted: impl Fn(&Table) -> bool, tally: &mut Tally) -> Result<(), String> {
+    for number in WORD_STREAMS.. {
+        let mut stream = Stream::new(seed, number, tally)?;
+        stream.run(messages, tally)?;
+        if wanted(stream.table()) {
+            return stream.try_every_word(tally);
+        }
+    }
+    unreachable!("some stream leads to such a table")
+}
+
 fn streams(seed: u64, messages: u64, tally: &mut Tally) -> Result<(), String> {
     let mut number = 0;
     let mut left = messages;
@@ -75,4 +121,17 @@ fn streams(seed: u64, messages: u64, tally: &mut Tally) -> Result<(), String> {
         left -= steps;
     }
     Ok(())
+}
+
+#[cfg(test)]
+mod tests {
+    use super::*;
+
+    /// With the second program in the first one's place it is the yardstick that is tried.
+    #[test]
+    fn a_short_run() {
+        let mut tally = Tally::new(SITUATIONS, &names(breaks::all()), &names(NEAR_MISSES.iter()));
+        streams(1, 4000, &mut tally).unwrap();
+        assert!(tally.broken_total() > 500 && tally.word_total() > 500);
+    }
 }

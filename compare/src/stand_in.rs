@@ -1,45 +1,53 @@
 //! The second program behind the first one's C interface, to test the comparison without the library.
 
-use crate::first::{CheckpointRead, CheckpointWritten, MessageReply, RosterReply};
+use crate::first::{CheckpointRead, CheckpointWritten, MessageReply};
 use second::table::Table;
 use std::slice;
 
 /// # Safety
-/// As in chaffmoor.h: the pointer is good for its length.
+/// As in chaffmoor.h: the pointers are good, one of them for its length, and do not overlap.
 #[no_mangle]
-unsafe extern "C" fn chaffmoor_read_roster(roster: *const u8, length: usize) -> RosterReply {
-    let (answer, table) = second::read_roster(slice::from_raw_parts(roster, length));
-    RosterReply { answer, table }
+unsafe extern "C" fn chaffmoor_read_roster(table: *mut Table, roster: *const u8, length: usize) -> u8 {
+    let (answer, read) = second::read_roster(slice::from_raw_parts(roster, length));
+    *table = read;
+    answer
 }
 
 /// # Safety
-/// As in chaffmoor.h: both pointers are good for their lengths.
+/// As in chaffmoor.h: the pointers are good, two of them for their lengths, and do not overlap.
 #[no_mangle]
 unsafe extern "C" fn chaffmoor_handle(
-    table: Table,
+    table: *mut Table,
     message: *const u8,
     message_length: usize,
     reply: *mut u8,
     reply_length: usize,
 ) -> MessageReply {
     let message = slice::from_raw_parts(message, message_length);
-    let (answer, length, table) = second::handle(&table, message, slice::from_raw_parts_mut(reply, reply_length));
-    MessageReply { answer, length, table }
+    let reply = slice::from_raw_parts_mut(reply, reply_length);
+    let (answer, length, after) = second::handle(&*table, message, reply);
+    *table = after;
+    MessageReply { answer, length }
 }
 
 /// # Safety
-/// As in chaffmoor.h: the pointer is good for its length.
+/// As in chaffmoor.h: the pointers are good, one of them for its length, and do not overlap.
 #[no_mangle]
-unsafe extern "C" fn chaffmoor_write_checkpoint(table: Table, checkpoint: *mut u8, length: usize) -> CheckpointWritten {
-    let (answer, length) = second::write_checkpoint(&table, slice::from_raw_parts_mut(checkpoint, length));
+unsafe extern "C" fn chaffmoor_write_checkpoint(
+    table: *const Table,
+    checkpoint: *mut u8,
+    length: usize,
+) -> CheckpointWritten {
+    let (answer, length) = second::write_checkpoint(&*table, slice::from_raw_parts_mut(checkpoint, length));
     CheckpointWritten { answer, length }
 }
 
 /// # Safety
-/// As in chaffmoor.h: both pointers are good for their lengths.
+/// As in chaffmoor.h: the pointers are good, two of them for their lengths, and do not overlap.
 #[no_mangle]
 unsafe extern "C" fn chaffmoor_read_checkpoint(
-    salvage: bool,
+    table: *mut Table,
+    salvage: u32,
     roster: *const u8,
     roster_length: usize,
     checkpoint: *const u8,
@@ -47,12 +55,12 @@ unsafe extern "C" fn chaffmoor_read_checkpoint(
 ) -> CheckpointRead {
     let roster = slice::from_raw_parts(roster, roster_length);
     let checkpoint = slice::from_raw_parts(checkpoint, checkpoint_length);
-    let (answer, table, calls, connections) = second::read_checkpoint(salvage, roster, checkpoint);
+    let (answer, read, calls, connections) = second::read_checkpoint(salvage == 1, roster, checkpoint);
+    *table = read;
     CheckpointRead {
         answer,
         calls,
         connections,
-        table,
     }
 }
 
@@ -69,7 +77,10 @@ unsafe extern "C" fn chaffmoor_part_read(message: *const u8, length: usize) -> u
 }
 
 /// For the benchmark: the rule check alone.
+///
+/// # Safety
+/// The pointer is good.
 #[no_mangle]
-extern "C" fn chaffmoor_part_rules(table: Table) -> bool {
-    second::Node::from_table(&table).is_some()
+unsafe extern "C" fn chaffmoor_part_rules(table: *const Table) -> bool {
+    second::Node::from_table(&*table).is_some()
 }

@@ -38,7 +38,7 @@ impl Stream {
         let roster = rosters::shaped(shape, &mut random);
         let bytes = roster.bytes();
         let (answer, mut first, mut second) =
-            both::roster(&bytes).map_err(|what| format!("{name}, roster {}: {what}", hex(&bytes)))?;
+            both::roster(&bytes, &mut random).map_err(|what| format!("{name}, roster {}: {what}", hex(&bytes)))?;
         tally.roster(answer);
         let next = match random.below(2) {
             0 => 1,
@@ -120,6 +120,23 @@ impl Stream {
         );
         (self.first, self.second) = (done.first, done.second);
         Ok(())
+    }
+
+    /// The table as it is now.
+    pub fn table(&self) -> &Table {
+        &self.first
+    }
+
+    /// Every word of the table as it is now, with values outside its field.
+    pub fn try_every_word(&mut self, tally: &mut Tally) -> Result<(), String> {
+        let mut trials = Trials {
+            table: &self.first,
+            values: &self.values,
+            random: &mut self.random,
+            tally,
+        };
+        let tried = trials.every_word();
+        tried.map_err(|what| format!("{}, {what}\nroster {}", self.name, hex(&self.roster)))
     }
 
     /// Breakings, near misses and random changes of the table as it is now.

@@ -2,10 +2,10 @@
 
 use crate::build::Connection;
 use crate::random::Random;
-use second::table::{Call, Customer, Place, StandalonePlace, Table};
+use second::table::{Call, Customer, Place, Table};
 
 pub const FREE_PLACE: Place = Place {
-    taken: false,
+    taken: 0,
     tunnel: 0,
     extended: 0,
     lsp: 0,
@@ -18,25 +18,18 @@ pub const FREE_CALL: Call = Call {
     epoch: 0,
     identifier: 0,
     id: 0,
-    made: false,
+    made: 0,
     size: 0,
     name: [0; 32],
     places: [FREE_PLACE; 4],
-};
-
-pub const FREE_STANDALONE: StandalonePlace = StandalonePlace {
-    taken: false,
-    endpoint: 0,
-    tunnel: 0,
-    extended: 0,
-    lsp: 0,
 };
 
 pub const UNUSED: Customer = Customer {
     address: 0,
     guarantee: 0,
     limit: 0,
-    places: [FREE_STANDALONE; 4],
+    endpoints: [0; 4],
+    places: [FREE_PLACE; 4],
 };
 
 /// The empty table, as a refused roster returns it.
@@ -45,7 +38,7 @@ pub const EMPTY: Table = Table {
     epoch: 0,
     next: 1,
     listed: 0,
-    occupied: 0,
+    occupied: [0; 2],
     customers: [UNUSED; 8],
     calls: [FREE_CALL; 64],
 };
@@ -57,8 +50,23 @@ pub struct Held {
     pub call: u16,
 }
 
+/// The used slots, a bit each.
+pub fn occupied(table: &Table) -> u64 {
+    u64::from(table.occupied[1]) << 32 | u64::from(table.occupied[0])
+}
+
+pub fn set_occupied(table: &mut Table, slots: u64) {
+    table.occupied = [slots as u32, (slots >> 32) as u32];
+}
+
 pub fn is_used(table: &Table, slot: usize) -> bool {
-    table.occupied >> slot & 1 == 1
+    occupied(table) >> slot & 1 == 1
+}
+
+/// Marks a slot as used, or as free.
+pub fn set_used(table: &mut Table, slot: usize, used: bool) {
+    let slots = occupied(table) & !(1 << slot);
+    set_occupied(table, slots | u64::from(used) << slot);
 }
 
 /// The used slots' numbers.
@@ -78,11 +86,11 @@ pub fn calls(table: &Table) -> impl Iterator<Item = &Call> {
 }
 
 pub fn listed(table: &Table) -> &[Customer] {
-    &table.customers[..usize::from(table.listed)]
+    &table.customers[..table.listed as usize]
 }
 
 pub fn name(call: &Call) -> &[u8] {
-    &call.name[..usize::from(call.size)]
+    &call.name[..call.size as usize]
 }
 
 /// A customer's open calls.
@@ -92,7 +100,7 @@ pub fn count(table: &Table, address: u32) -> usize {
 
 /// S.
 pub fn taken(table: &Table) -> usize {
-    let larger = |one: &Customer| count(table, one.address).max(usize::from(one.guarantee));
+    let larger = |one: &Customer| count(table, one.address).max(one.guarantee as usize);
     listed(table).iter().map(larger).sum()
 }
 
@@ -100,14 +108,14 @@ pub fn taken(table: &Table) -> usize {
 pub fn held(table: &Table) -> Vec<Held> {
     let mut all = Vec::new();
     for call in calls(table) {
-        let places = call.places.iter().filter(|place| place.taken);
+        let places = call.places.iter().filter(|place| is_taken(place));
         all.extend(places.map(|place| Held {
             connection: under(call, place),
-            call: call.id,
+            call: call.id as u16,
         }));
     }
     for customer in listed(table) {
-        let places = customer.places.iter().filter(|place| place.taken);
+        let places = (0..4).filter(|&place| is_taken(&customer.places[place]));
         all.extend(places.map(|place| Held {
             connection: standalone(customer, place),
             call: 0,
@@ -116,23 +124,27 @@ pub fn held(table: &Table) -> Vec<Held> {
     all
 }
 
-fn under(call: &Call, place: &Place) -> Connection {
-    Connection {
-        endpoint: call.endpoint,
-        tunnel: place.tunnel,
-        extended: place.extended,
-        sender: call.sender,
-        lsp: place.lsp,
-    }
+/// Whether a connection stands there.
+pub fn is_taken(place: &Place) -> bool {
+    place.taken == 1
 }
 
-fn standalone(customer: &Customer, place: &StandalonePlace) -> Connection {
+fn under(call: &Call, place: &Place) -> Connection {
+    connection(call.endpoint, call.sender, place)
+}
+
+fn standalone(customer: &Customer, place: usize) -> Connection {
+    connection(customer.endpoints[place], customer.address, &customer.places[place])
+}
+
+/// The connection in a place of a table that breaks no rule.
+fn connection(endpoint: u32, sender: u32, place: &Place) -> Connection {
     Connection {
-        endpoint: place.endpoint,
-        tunnel: place.tunnel,
+        endpoint,
+        tunnel: place.tunnel as u16,
         extended: place.extended,
-        sender: customer.address,
-        lsp: place.lsp,
+        sender,
+        lsp: place.lsp as u16,
     }
 }
 
@@ -155,7 +167,7 @@ pub fn some_held(table: &Table, random: &mut Random) -> Option<Held> {
 pub fn in_use(table: &Table, pair: (u32, u32), id: u16, name: &[u8]) -> (bool, bool) {
     let mut found = (false, false);
     for call in calls(table).filter(|call| (call.endpoint, call.sender) == pair) {
-        found.0 |= call.id == id;
+        found.0 |= call.id == u32::from(id);
         found.1 |= self::name(call) == name;
     }
     found

@@ -2,6 +2,8 @@
 
 use crate::damage::DAMAGES;
 use crate::intent::Intent;
+use crate::layout::WORDS;
+use crate::outside::{Due, KEPT, REFUSED};
 use std::collections::BTreeMap;
 
 /// Every answer of 01 to a message, and to a roster.
@@ -24,6 +26,10 @@ pub struct Tally {
     situations: Counts,
     breakings: Counts,
     near_misses: Counts,
+    outside: Counts,
+    /// How often each word of a table was changed.
+    words: Vec<u64>,
+    words_refused: u64,
     pub compared: u64,
     pub changed: u64,
     pub changed_refused: u64,
@@ -44,6 +50,9 @@ impl Tally {
             situations: zeros(situations),
             breakings: zeros(breakings),
             near_misses: zeros(near),
+            outside: REFUSED.iter().chain(KEPT).map(|&name| (name, 0)).collect(),
+            words: vec![0; WORDS],
+            words_refused: 0,
             compared: 0,
             changed: 0,
             changed_refused: 0,
@@ -81,6 +90,19 @@ impl Tally {
         raise(&mut self.near_misses, name);
     }
 
+    /// A table with this word changed, and whether it was answered 1.
+    pub fn word(&mut self, word: usize, due: Due, refused: bool) {
+        self.words[word] += 1;
+        self.words_refused += u64::from(refused);
+        if let Due::Refused(name) | Due::Kept(name) = due {
+            raise(&mut self.outside, name);
+        }
+    }
+
+    pub fn word_total(&self) -> u64 {
+        self.words.iter().sum()
+    }
+
     pub fn roster_total(&self) -> u64 {
         self.rosters.iter().sum()
     }
@@ -102,16 +124,34 @@ impl Tally {
         print_counts("tables nearly broken (no answer 1)", &self.near_misses);
         let (changed, refused) = (self.changed, self.changed_refused);
         println!("single fields changed at random: {changed}, of which {refused} were answered 1");
+        print_counts(
+            "values outside a word's field (answer 1), or any that it may have",
+            &self.outside,
+        );
+        let (changed, refused) = (self.word_total(), self.words_refused);
+        let least = self.words.iter().min().expect("a table has words");
+        println!("single words changed: {changed}, each at least {least} times, of which {refused} were answered 1");
     }
 
     /// What the run should have reached and has not.
     pub fn lacking(&self) -> Vec<String> {
         let mut lacking = lacking_answers("answer", &MESSAGE_ANSWERS, &self.messages);
         lacking.extend(lacking_answers("roster answer", &ROSTER_ANSWERS, &self.rosters));
-        let named = [&self.damages, &self.situations, &self.breakings, &self.near_misses];
+        let named = [
+            &self.damages,
+            &self.situations,
+            &self.breakings,
+            &self.near_misses,
+            &self.outside,
+        ];
         for (name, count) in named.into_iter().flatten() {
             if *count < LEAST {
                 lacking.push(format!("{name}: came {count} times only"));
+            }
+        }
+        for (word, &count) in self.words.iter().enumerate() {
+            if count < LEAST {
+                lacking.push(format!("word {word}: changed {count} times only"));
             }
         }
         for (length, &count) in self.buffers.iter().enumerate() {

@@ -1,10 +1,14 @@
-//! Tables handed in that no program made: broken ones (answer 1 from both), near misses (never 1), random changes.
+//! Tables handed in that no program made: broken ones (answer 1 from both), near misses (never 1), random changes,
+//! values outside their fields.
 
 use crate::both::{self, Done};
 use crate::breaks;
 use crate::change;
+use crate::checkpoints;
 use crate::intent::CHURN;
+use crate::layout::{field, words};
 use crate::near::NEAR_MISSES;
+use crate::outside::{self, Changed, Due};
 use crate::random::Random;
 use crate::source;
 use crate::tally::Tally;
@@ -12,8 +16,9 @@ use crate::values::Values;
 use second::table::Table;
 use second::Node;
 
-/// How often a table is changed at random.
+/// How often a field of a table is changed at random, and how often a word.
 const CHANGES: usize = 60;
+const WORDS: usize = 60;
 
 pub struct Trials<'a> {
     /// A table that breaks no rule.
@@ -38,6 +43,43 @@ impl Trials<'_> {
         for _ in 0..CHANGES {
             self.changed().map_err(|what| format!("changed at random: {what}"))?;
         }
+        for _ in 0..WORDS {
+            if let Some(changed) = outside::some_word(self.table, self.random) {
+                self.word(&changed)?;
+            }
+        }
+        Ok(())
+    }
+
+    /// Every word of the table with every value.
+    pub fn every_word(&mut self) -> Result<(), String> {
+        let table = self.table;
+        outside::every_word(table).try_for_each(|changed| self.word(&changed))
+    }
+
+    /// One word changed: what is certainly outside its field is answered 1, and the rest alike by both.
+    fn word(&mut self, changed: &Changed) -> Result<(), String> {
+        let Changed { table, word, due } = changed;
+        let place = |what| {
+            let (old, new) = (words(self.table)[*word], words(table)[*word]);
+            format!("word {word} ({:?}) {old} set to {new}, {due:?}: {what}", field(*word))
+        };
+        let done = self.compare(table).map_err(place)?;
+        let refused = done.answer == 1;
+        if refused {
+            untouched(&done, table).map_err(place)?;
+        }
+        if matches!(due, Due::Refused(_)) && !refused || matches!(due, Due::Kept(_)) && refused {
+            return Err(place(format!("both answer {}", done.answer)));
+        }
+        // The rule check before a checkpoint is written is the same.
+        if self.random.chance(1, 16) {
+            let (answer, _) = checkpoints::both::write(table, 10_000, self.random).map_err(place)?;
+            if (answer == 1) != refused {
+                return Err(place(format!("both answer {}, writing {answer}", done.answer)));
+            }
+        }
+        self.tally.word(*word, *due, refused);
         Ok(())
     }
 
@@ -50,10 +92,7 @@ impl Trials<'_> {
         if done.answer != 1 {
             return Err(format!("both answer {}, not 1", done.answer));
         }
-        both::same_tables(&done.first, &table).map_err(|what| format!("answer 1, but {what}"))?;
-        if done.length != 0 || done.old != done.buffer {
-            return Err("answer 1 with a reply".into());
-        }
+        untouched(&done, &table)?;
         self.tally.breaking(name);
         Ok(())
     }
@@ -100,6 +139,15 @@ impl Trials<'_> {
         }
         Ok(done)
     }
+}
+
+/// Answer 1 leaves the table and the buffer as they were.
+fn untouched(done: &Done, table: &Table) -> Result<(), String> {
+    both::same_tables(&done.first, table).map_err(|what| format!("answer 1, but {what}"))?;
+    if done.length != 0 || done.old != done.buffer {
+        return Err("answer 1 with a reply".into());
+    }
+    Ok(())
 }
 
 pub fn hex(bytes: &[u8]) -> String {

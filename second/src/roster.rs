@@ -108,14 +108,14 @@ fn fresh_table(bytes: &[u8], roster: &Roster) -> Table {
     let mut table = Table {
         address: long(bytes, 1),
         epoch: long(bytes, 4) & 0x00ff_ffff,
-        listed: roster.accounts.len() as u8,
+        listed: roster.accounts.len() as u32,
         ..Table::EMPTY
     };
     for (record, account) in table.customers.iter_mut().zip(&roster.accounts) {
         *record = Customer {
             address: account.address,
-            guarantee: account.guarantee,
-            limit: account.limit,
+            guarantee: account.guarantee.into(),
+            limit: account.limit.into(),
             ..Customer::UNUSED
         };
     }

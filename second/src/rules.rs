@@ -6,7 +6,7 @@ use crate::keys::{Connection, Name, Pair};
 use crate::node::{Holder, Node, OpenCall, Position};
 use crate::places::Places;
 use crate::roster::Roster;
-use crate::table::{Call, Customer, Place, StandalonePlace, Table, CALLS, NAME};
+use crate::table::{Call, Customer, Place, Table, CALLS};
 
 /// An own epoch is under this.
 const EPOCHS: u32 = 1 << 24;
@@ -15,7 +15,7 @@ impl Node {
     /// None where the table breaks a table rule (answer 1).
     pub fn from_table(table: &Table) -> Option<Node> {
         let roster = checked_roster(table)?;
-        let free: BTreeSet<usize> = (0..CALLS).filter(|slot| table.occupied >> slot & 1 == 0).collect();
+        let free: BTreeSet<usize> = (0..CALLS).filter(|&slot| !table.uses(slot)).collect();
         let used = CALLS - free.len();
         let mut node = Node {
             address: table.address,
@@ -34,7 +34,8 @@ impl Node {
                 return None;
             }
         }
-        for (customer, record) in table.customers[..table.listed.into()].iter().enumerate() {
+        let listed = node.roster.accounts.len();
+        for (customer, record) in table.customers[..listed].iter().enumerate() {
             node.insert_standalone(customer, record)?;
         }
         (node.roster.share_sum() <= CALLS).then_some(node)
@@ -42,13 +43,14 @@ impl Node {
 
     /// A used slot: listed sender within its limit, good IDs that its pair has only once, zeros for later requests.
     fn insert_call(&mut self, slot: usize, call: &Call) -> Option<()> {
-        if call.made || call.refreshed != 0 || call.epoch != 0 || call.identifier != 0 {
+        if call.made != 0 || call.refreshed != 0 || call.epoch != 0 || call.identifier != 0 {
             return None;
         }
+        let id = u16::try_from(call.id).ok()?;
         let name = checked_name(call)?;
         let customer = self.roster.find(call.sender)?;
         let account = &mut self.roster.accounts[customer];
-        if call.id == 0 || account.open == account.limit {
+        if id == 0 || account.open == account.limit {
             return None;
         }
         account.open += 1;
@@ -56,11 +58,11 @@ impl Node {
             endpoint: call.endpoint,
             sender: call.sender,
         };
-        let holder = Holder::Call { id: call.id, slot };
+        let holder = Holder::Call { id, slot };
         let places = self.insert_places(pair, holder, &call.places)?;
         let open = OpenCall { slot, name, places };
-        let id_twice = self.calls.insert((pair, call.id), open).is_some();
-        let name_twice = self.long_ids.insert((pair, name), call.id).is_some();
+        let id_twice = self.calls.insert((pair, id), open).is_some();
+        let name_twice = self.long_ids.insert((pair, name), id).is_some();
         (!id_twice && !name_twice).then_some(())
     }
 
@@ -68,17 +70,9 @@ impl Node {
     fn insert_places(&mut self, pair: Pair, holder: Holder, four: &[Place]) -> Option<Places> {
         let mut places = Places::default();
         for (place, stands) in four.iter().enumerate() {
-            if stands.taken {
-                let connection = Connection {
-                    pair,
-                    tunnel: stands.tunnel,
-                    extended: stands.extended,
-                    lsp: stands.lsp,
-                };
+            if let Some(connection) = checked_place(stands, pair)? {
                 self.insert_connection(connection, Position { holder, place })?;
                 places.take(place);
-            } else if *stands != Place::FREE {
-                return None;
             }
         }
         Some(places)
@@ -87,20 +81,15 @@ impl Node {
     /// A customer's four for Call ID 0.
     fn insert_standalone(&mut self, customer: usize, record: &Customer) -> Option<()> {
         let holder = Holder::Customer(customer);
-        for (place, stands) in record.places.iter().enumerate() {
-            if stands.taken {
-                let connection = Connection {
-                    pair: Pair {
-                        endpoint: stands.endpoint,
-                        sender: record.address,
-                    },
-                    tunnel: stands.tunnel,
-                    extended: stands.extended,
-                    lsp: stands.lsp,
-                };
+        for (place, (stands, &endpoint)) in record.places.iter().zip(&record.endpoints).enumerate() {
+            let pair = Pair {
+                endpoint,
+                sender: record.address,
+            };
+            if let Some(connection) = checked_place(stands, pair)? {
                 self.insert_connection(connection, Position { holder, place })?;
                 self.roster.accounts[customer].places.take(place);
-            } else if *stands != StandalonePlace::FREE {
+            } else if endpoint != 0 {
                 return None;
             }
         }
@@ -120,21 +109,21 @@ impl Node {
             address: self.address,
             epoch: self.epoch,
             next: self.next,
-            listed: self.roster.accounts.len() as u8,
+            listed: self.roster.accounts.len() as u32,
             ..Table::EMPTY
         };
         for (record, account) in table.customers.iter_mut().zip(&self.roster.accounts) {
             record.address = account.address;
-            record.guarantee = account.guarantee;
-            record.limit = account.limit;
+            record.guarantee = account.guarantee.into();
+            record.limit = account.limit.into();
         }
         for (&(pair, id), open) in &self.calls {
-            table.occupied |= 1 << open.slot;
+            table.occupy(open.slot);
             let call = &mut table.calls[open.slot];
             call.endpoint = pair.endpoint;
             call.sender = pair.sender;
-            call.id = id;
-            call.size = open.name.size;
+            call.id = id.into();
+            call.size = open.name.size.into();
             call.name = open.name.bytes;
         }
         for (connection, position) in &self.connections {
@@ -146,7 +135,7 @@ impl Node {
 
 /// The roster is acceptable, or empty with zeros for address and epoch; unused records are zeros.
 fn checked_roster(table: &Table) -> Option<Roster> {
-    let listed = usize::from(table.listed);
+    let listed = usize::try_from(table.listed).ok()?;
     let unused = table.customers.get(listed..)?;
     if unused.iter().any(|record| *record != Customer::UNUSED) {
         return None;
@@ -159,21 +148,36 @@ fn checked_roster(table: &Table) -> Option<Roster> {
     }
     let mut roster = Roster::with_capacity(listed);
     for record in &table.customers[..listed] {
-        roster.list(record.address, record.guarantee, record.limit).ok()?;
+        let guarantee = u8::try_from(record.guarantee).ok()?;
+        let limit = u8::try_from(record.limit).ok()?;
+        roster.list(record.address, guarantee, limit).ok()?;
     }
     (roster.share_sum() <= CALLS).then_some(roster)
 }
 
 /// A name of 1 to 32 bytes, zeros behind it.
 fn checked_name(call: &Call) -> Option<Name> {
-    let size = usize::from(call.size);
-    if size == 0 || size > NAME || call.name[size..].iter().any(|&byte| byte != 0) {
+    let size = u8::try_from(call.size).ok()?;
+    let past = call.name.get(size.into()..)?;
+    if size == 0 || past.iter().any(|&byte| byte != 0) {
         return None;
     }
-    Some(Name {
-        size: call.size,
-        bytes: call.name,
-    })
+    Some(Name { size, bytes: call.name })
+}
+
+/// The connection of a pair that a place holds, if it holds one: taken is 1 and both IDs have sixteen bits, or the
+/// place is zeros. Else a rule is broken.
+fn checked_place(place: &Place, pair: Pair) -> Option<Option<Connection>> {
+    match place.taken {
+        0 => (*place == Place::FREE).then_some(None),
+        1 => Some(Some(Connection {
+            pair,
+            tunnel: u16::try_from(place.tunnel).ok()?,
+            extended: place.extended,
+            lsp: u16::try_from(place.lsp).ok()?,
+        })),
+        _ => None,
+    }
 }
 
 fn put_connection(table: &mut Table, connection: &Connection, position: &Position) {
@@ -183,23 +187,18 @@ fn put_connection(table: &mut Table, connection: &Connection, position: &Positio
         extended,
         lsp,
     } = connection;
+    let place = Place {
+        taken: 1,
+        tunnel: tunnel.into(),
+        extended,
+        lsp: lsp.into(),
+    };
     match position.holder {
         Holder::Customer(customer) => {
-            table.customers[customer].places[position.place] = StandalonePlace {
-                taken: true,
-                endpoint: pair.endpoint,
-                tunnel,
-                extended,
-                lsp,
-            };
+            let customer = &mut table.customers[customer];
+            customer.endpoints[position.place] = pair.endpoint;
+            customer.places[position.place] = place;
         }
-        Holder::Call { slot, .. } => {
-            table.calls[slot].places[position.place] = Place {
-                taken: true,
-                tunnel,
-                extended,
-                lsp,
-            };
-        }
+        Holder::Call { slot, .. } => table.calls[slot].places[position.place] = place,
     }
 }

@@ -1,4 +1,5 @@
-//! 01, "Table rules": the table as plain data, with the fields and the order of chaffmoor.h.
+//! 01, "Table rules": the table as plain data, 2,238 words of 32 bits with the fields and the order of chaffmoor.h. A
+//! field can hold more than its values are: 01's widths are table rules (`rules`).
 
 /// Slots for calls.
 pub const CALLS: usize = 64;
@@ -9,14 +10,14 @@ pub const PLACES: usize = 4;
 /// Bytes of a long Call ID.
 pub const NAME: usize = 32;
 
-/// A connection under a call.
+/// A connection; `taken` is 1, or 0 for none.
 #[repr(C)]
 #[derive(Clone, Copy, PartialEq, Eq, Debug)]
 pub struct Place {
-    pub taken: bool,
-    pub tunnel: u16,
+    pub taken: u32,
+    pub tunnel: u32,
     pub extended: u32,
-    pub lsp: u16,
+    pub lsp: u32,
 }
 
 /// A call. Its long Call ID is the first `size` bytes of `name`. `refreshed`, `epoch`, `identifier` and `made` are for
@@ -29,32 +30,23 @@ pub struct Call {
     pub refreshed: u32,
     pub epoch: u32,
     pub identifier: u32,
-    pub id: u16,
-    pub made: bool,
-    pub size: u8,
+    pub id: u32,
+    pub made: u32,
+    pub size: u32,
     pub name: [u8; NAME],
     pub places: [Place; PLACES],
 }
 
-/// A connection of Call ID 0.
-#[repr(C)]
-#[derive(Clone, Copy, PartialEq, Eq, Debug)]
-pub struct StandalonePlace {
-    pub taken: bool,
-    pub endpoint: u32,
-    pub tunnel: u16,
-    pub extended: u32,
-    pub lsp: u16,
-}
-
-/// A record of the roster, with the customer's connections of Call ID 0.
+/// A record of the roster, with the customer's connections of Call ID 0: the one in a place has the end point of the
+/// same number.
 #[repr(C)]
 #[derive(Clone, Copy, PartialEq, Eq, Debug)]
 pub struct Customer {
     pub address: u32,
-    pub guarantee: u8,
-    pub limit: u8,
-    pub places: [StandalonePlace; PLACES],
+    pub guarantee: u32,
+    pub limit: u32,
+    pub endpoints: [u32; PLACES],
+    pub places: [Place; PLACES],
 }
 
 #[repr(C)]
@@ -63,26 +55,16 @@ pub struct Table {
     pub address: u32,
     pub epoch: u32,
     pub next: u32,
-    pub listed: u8,
-    /// Bit i: slot i of `calls` is used.
-    pub occupied: u64,
+    pub listed: u32,
+    /// Bit i of the first, and bit i - 32 of the second: slot i of `calls` is used.
+    pub occupied: [u32; 2],
     pub customers: [Customer; CUSTOMERS],
     pub calls: [Call; CALLS],
 }
 
 impl Place {
     pub const FREE: Place = Place {
-        taken: false,
-        tunnel: 0,
-        extended: 0,
-        lsp: 0,
-    };
-}
-
-impl StandalonePlace {
-    pub const FREE: StandalonePlace = StandalonePlace {
-        taken: false,
-        endpoint: 0,
+        taken: 0,
         tunnel: 0,
         extended: 0,
         lsp: 0,
@@ -97,7 +79,7 @@ impl Call {
         epoch: 0,
         identifier: 0,
         id: 0,
-        made: false,
+        made: 0,
         size: 0,
         name: [0; NAME],
         places: [Place::FREE; PLACES],
@@ -109,7 +91,8 @@ impl Customer {
         address: 0,
         guarantee: 0,
         limit: 0,
-        places: [StandalonePlace::FREE; PLACES],
+        endpoints: [0; PLACES],
+        places: [Place::FREE; PLACES],
     };
 }
 
@@ -120,8 +103,18 @@ impl Table {
         epoch: 0,
         next: 1,
         listed: 0,
-        occupied: 0,
+        occupied: [0; 2],
         customers: [Customer::UNUSED; CUSTOMERS],
         calls: [Call::FREE; CALLS],
     };
+
+    /// Whether the slot is used.
+    pub fn uses(&self, slot: usize) -> bool {
+        self.occupied[slot / 32] >> (slot % 32) & 1 == 1
+    }
+
+    /// Marks the slot as used.
+    pub fn occupy(&mut self, slot: usize) {
+        self.occupied[slot / 32] |= 1 << (slot % 32);
+    }
 }

@@ -1,5 +1,6 @@
-/* A first use of the library from C: a roster, the worked Path of document 01 and its reply, and what the table says
- * before and after a setup. Build: cc -Iinclude tests/c/first_use.c target/staticlib/libchaffmoor.a -o first_use */
+/* A first use of the library from C: a roster, the worked Path of document 01 and its reply, what the table says
+ * before and after a setup, and tables that were changed by hand.
+ * Build: cc -Iinclude tests/c/first_use.c target/staticlib/libchaffmoor.a -o first_use */
 #include "chaffmoor.h"
 
 #include <stdio.h>
@@ -33,34 +34,59 @@ static void show(const char *what, const chaffmoor_message_reply *r, const uint8
     printf("\n");
 }
 
+/* The used slots, one bit each. */
+static unsigned long long slots(const chaffmoor_table *table)
+{
+    return (unsigned long long)table->occupied[1] << 32 | table->occupied[0];
+}
+
 int main(void)
 {
+    static chaffmoor_table table, before;
     uint8_t reply[CHAFFMOOR_REPLY];
     memset(reply, 0xee, sizeof reply);
-    chaffmoor_roster_reply first = chaffmoor_read_roster(roster, sizeof roster);
-    printf("roster: answer %u, %u customer, own address %08x\n", (unsigned)first.answer,
-           (unsigned)first.table.listed, (unsigned)first.table.address);
+    /* What the table holds before a roster is read does not matter. */
+    memset(&table, 0xdd, sizeof table);
+    uint8_t answer = chaffmoor_read_roster(&table, roster, sizeof roster);
+    printf("roster: answer %u, %u customer, own address %08x\n", (unsigned)answer, (unsigned)table.listed,
+           (unsigned)table.address);
 
-    chaffmoor_table table = first.table;
-    chaffmoor_message_reply r = chaffmoor_handle(table, path, sizeof path, reply, sizeof reply);
+    chaffmoor_message_reply r = chaffmoor_handle(&table, path, sizeof path, reply, sizeof reply);
     show("path", &r, reply);
     printf("the byte behind it: %02x\n", reply[r.length]);
 
-    r = chaffmoor_handle(r.table, setup, sizeof setup, reply, sizeof reply);
+    r = chaffmoor_handle(&table, setup, sizeof setup, reply, sizeof reply);
     printf("setup: answer %u, %zu bytes, slots used %llx, name '%c', next identifier %u\n", (unsigned)r.answer,
-           r.length, (unsigned long long)r.table.occupied, r.table.calls[0].name[0], (unsigned)r.table.next);
-    r = chaffmoor_handle(r.table, setup, sizeof setup, reply, sizeof reply);
-    printf("again: answer %u, slots used %llx\n", (unsigned)r.answer, (unsigned long long)r.table.occupied);
+           r.length, slots(&table), table.calls[0].name[0], (unsigned)table.next);
+    r = chaffmoor_handle(&table, setup, sizeof setup, reply, sizeof reply);
+    printf("again: answer %u, slots used %llx\n", (unsigned)r.answer, slots(&table));
 
     /* 127 bytes of buffer are too few, 128 are enough. */
-    r = chaffmoor_handle(r.table, setup, sizeof setup, reply, 127);
+    r = chaffmoor_handle(&table, setup, sizeof setup, reply, 127);
     printf("buffer of 127: answer %u\n", (unsigned)r.answer);
-    r = chaffmoor_handle(r.table, setup, sizeof setup, reply, 128);
+    r = chaffmoor_handle(&table, setup, sizeof setup, reply, 128);
     printf("buffer of 128: answer %u\n", (unsigned)r.answer);
 
-    /* A table that was changed by hand. */
-    r.table.calls[9].endpoint = 1;
-    r = chaffmoor_handle(r.table, setup, sizeof setup, reply, sizeof reply);
+    /* With length 0 nothing is read or written: there is nothing at these addresses. */
+    r = chaffmoor_handle(&table, (const uint8_t *)8, 0, reply, sizeof reply);
+    printf("message of 0: answer %u\n", (unsigned)r.answer);
+    r = chaffmoor_handle(&table, setup, sizeof setup, (uint8_t *)8, 0);
+    printf("buffer of 0: answer %u\n", (unsigned)r.answer);
+
+    /* The Path once more, now that its call is open. */
+    r = chaffmoor_handle(&table, path, sizeof path, reply, sizeof reply);
+    printf("path again: answer %u, taken %u, tunnel %u\n", (unsigned)r.answer, (unsigned)table.calls[0].places[0].taken,
+           (unsigned)table.calls[0].places[0].tunnel);
+
+    /* Tables that were changed by hand: a value outside its field, and a free slot that is not zeros. */
+    table.calls[0].places[0].taken = 2;
+    before = table;
+    r = chaffmoor_handle(&table, setup, sizeof setup, reply, sizeof reply);
+    printf("taken 2: answer %u, table %s\n", (unsigned)r.answer,
+           memcmp(&table, &before, sizeof table) == 0 ? "as it was" : "changed");
+    table.calls[0].places[0].taken = 1;
+    table.calls[9].endpoint = 1;
+    r = chaffmoor_handle(&table, setup, sizeof setup, reply, sizeof reply);
     printf("broken table: answer %u\n", (unsigned)r.answer);
     return 0;
 }

@@ -27,7 +27,8 @@ impl Node {
             epoch: 7,
             records: vec![record(X, 1, 2), record(Y, 0, 64)],
         };
-        let (answer, table) = first::read_roster(&roster.bytes());
+        let mut table = Table::EMPTY;
+        let answer = first::read_roster(&mut table, &roster.bytes());
         assert_eq!(answer, 0);
         Node { table }
     }
@@ -35,9 +36,8 @@ impl Node {
     /// Sends a message that has to be answered so, and writes the reply, if there is one.
     fn send(&mut self, message: &[u8], due: u8) {
         let mut reply = [0; 128];
-        let (answer, length, table) = first::handle(&self.table, message, &mut reply);
+        let (answer, length) = first::handle(&mut self.table, message, &mut reply);
         assert_eq!(answer, due);
-        self.table = table;
         if length > 0 {
             let hex: String = reply[..length].iter().map(|byte| format!("{byte:02x}")).collect();
             println!("{answer} {hex}");

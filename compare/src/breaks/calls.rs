@@ -27,7 +27,7 @@ pub const BREAKS: &[(&str, Break)] = &[
     ("request identifier of a call", |t, r| {
         later(t, r, |call, bit| call.identifier = bit)
     }),
-    ("made mark of a call", |t, r| later(t, r, |call, _| call.made = true)),
+    ("made mark of a call", |t, r| later(t, r, |call, _| call.made = 1)),
     ("occupied bit set over a free slot", bit_set),
     ("occupied bit cleared over a used slot", bit_cleared),
 ];
@@ -76,7 +76,7 @@ fn name_none(table: &mut Table, random: &mut Random) -> bool {
 }
 
 /// All 32 bytes are nonzero, so that none of them could stand behind a shorter name.
-fn full_name(call: &mut Call, size: u8) {
+fn full_name(call: &mut Call, size: u32) {
     call.name = [b'n'; 32];
     call.size = size;
 }
@@ -96,13 +96,13 @@ fn id_none(table: &mut Table, random: &mut Random) -> bool {
 
 fn byte_behind(table: &mut Table, random: &mut Random) -> bool {
     let bit = 1 << random.below(8);
-    with_short_name(table, random, |call, _| call.name[usize::from(call.size)] = bit)
+    with_short_name(table, random, |call, _| call.name[call.size as usize] = bit)
 }
 
 fn byte_past(table: &mut Table, random: &mut Random) -> bool {
     let bit = 1 << random.below(8);
     with_short_name(table, random, |call, random| {
-        let at = random.between(usize::from(call.size), 31);
+        let at = random.between(call.size as usize, 31);
         call.name[*random.pick(&[at, 31])] = bit;
     })
 }
@@ -128,7 +128,7 @@ fn bit_set(table: &mut Table, random: &mut Random) -> bool {
     if free.is_empty() {
         return false;
     }
-    table.occupied |= 1 << random.pick(&free);
+    tables::set_used(table, *random.pick(&free), true);
     true
 }
 
@@ -136,6 +136,6 @@ fn bit_cleared(table: &mut Table, random: &mut Random) -> bool {
     let Some(slot) = tables::some_used(table, random) else {
         return false;
     };
-    table.occupied &= !(1 << slot);
+    tables::set_used(table, slot, false);
     true
 }

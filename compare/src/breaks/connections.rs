@@ -49,8 +49,8 @@ fn across_standalone(table: &mut Table, random: &mut Random) -> bool {
     let place = some_place(table, slot, random);
     let call = table.calls[slot];
     let customer = customer_of(table, call.sender);
-    let copy = standalone(&call.places[place], call.endpoint);
-    table.customers[customer].places[random.below(4)] = copy;
+    let copy = (call.places[place], call.endpoint);
+    set_standalone(table, customer, random.below(4), copy);
     true
 }
 
@@ -59,8 +59,9 @@ fn within_standalone(table: &mut Table, random: &mut Random) -> bool {
         return false;
     };
     let place = some_standalone(table, customer, random);
-    let places = &mut table.customers[customer].places;
-    places[another(place, random)] = places[place];
+    let one = &table.customers[customer];
+    let copy = (one.places[place], one.endpoints[place]);
+    set_standalone(table, customer, another(place, random), copy);
     true
 }
 
@@ -72,8 +73,8 @@ fn zero_within_call(table: &mut Table, random: &mut Random) -> bool {
     let call = &mut table.calls[slot];
     call.places = tables::FREE_CALL.places;
     let place = random.below(4);
-    call.places[place].taken = true;
-    call.places[another(place, random)].taken = true;
+    call.places[place].taken = 1;
+    call.places[another(place, random)].taken = 1;
     true
 }
 
@@ -81,10 +82,10 @@ fn zero_within_standalone(table: &mut Table, random: &mut Random) -> bool {
     let Some(customer) = some_customer(table, random) else {
         return false;
     };
+    drop_standalone_of(table, customer);
     let customer = &mut table.customers[customer];
-    customer.places = tables::UNUSED.places;
     let place = random.below(4);
-    customer.places[place].taken = true;
-    customer.places[another(place, random)].taken = true;
+    customer.places[place].taken = 1;
+    customer.places[another(place, random)].taken = 1;
     true
 }

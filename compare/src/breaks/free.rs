@@ -3,8 +3,8 @@
 use super::tools::some_customer;
 use super::Break;
 use crate::random::Random;
-use crate::tables;
-use second::table::{Call, Customer, Place, StandalonePlace, Table};
+use crate::tables::{self, is_taken};
+use second::table::{Call, Customer, Place, Table};
 
 pub const BREAKS: &[(&str, Break)] = &[
     ("free slot's end point", |t, r| {
@@ -22,79 +22,75 @@ pub const BREAKS: &[(&str, Break)] = &[
     ("free slot's request identifier", |t, r| {
         slot(t, r, |call, r| call.identifier = bit32(r))
     }),
-    ("free slot's made mark", |t, r| slot(t, r, |call, _| call.made = true)),
-    ("free slot's short ID", |t, r| slot(t, r, |call, r| call.id = bit16(r))),
+    ("free slot's made mark", |t, r| slot(t, r, |call, _| call.made = 1)),
+    ("free slot's short ID", |t, r| slot(t, r, |call, r| call.id = bit32(r))),
     ("free slot's name size", |t, r| {
-        slot(t, r, |call, r| call.size = bit8(r))
+        slot(t, r, |call, r| call.size = bit32(r))
     }),
     ("free slot's name", |t, r| {
         slot(t, r, |call, r| call.name[r.below(32)] = bit8(r))
     }),
     ("free slot's place: mark", |t, r| {
-        slot(t, r, |call, r| some(&mut call.places, r).taken = true)
+        slot(t, r, |call, r| some(&mut call.places, r).taken = 1)
     }),
     ("free slot's place: Tunnel ID", |t, r| {
-        slot(t, r, |call, r| some(&mut call.places, r).tunnel = bit16(r))
+        slot(t, r, |call, r| some(&mut call.places, r).tunnel = bit32(r))
     }),
     ("free slot's place: extended", |t, r| {
         slot(t, r, |call, r| some(&mut call.places, r).extended = bit32(r))
     }),
     ("free slot's place: LSP ID", |t, r| {
-        slot(t, r, |call, r| some(&mut call.places, r).lsp = bit16(r))
+        slot(t, r, |call, r| some(&mut call.places, r).lsp = bit32(r))
     }),
     ("call's free place: Tunnel ID", |t, r| {
-        place(t, r, |place, r| place.tunnel = bit16(r))
+        place(t, r, |place, r| place.tunnel = bit32(r))
     }),
     ("call's free place: extended", |t, r| {
         place(t, r, |place, r| place.extended = bit32(r))
     }),
     ("call's free place: LSP ID", |t, r| {
-        place(t, r, |place, r| place.lsp = bit16(r))
+        place(t, r, |place, r| place.lsp = bit32(r))
     }),
     ("customer's free place: end point", |t, r| {
-        standalone(t, r, |place, r| place.endpoint = bit32(r))
+        standalone(t, r, |_, endpoint, r| *endpoint = bit32(r))
     }),
     ("customer's free place: Tunnel ID", |t, r| {
-        standalone(t, r, |place, r| place.tunnel = bit16(r))
+        standalone(t, r, |place, _, r| place.tunnel = bit32(r))
     }),
     ("customer's free place: extended", |t, r| {
-        standalone(t, r, |place, r| place.extended = bit32(r))
+        standalone(t, r, |place, _, r| place.extended = bit32(r))
     }),
     ("customer's free place: LSP ID", |t, r| {
-        standalone(t, r, |place, r| place.lsp = bit16(r))
+        standalone(t, r, |place, _, r| place.lsp = bit32(r))
     }),
     ("unused record's address", |t, r| {
         record(t, r, |one, r| one.address = bit32(r))
     }),
     ("unused record's guarantee", |t, r| {
-        record(t, r, |one, r| one.guarantee = bit8(r))
+        record(t, r, |one, r| one.guarantee = bit32(r))
     }),
     ("unused record's limit", |t, r| {
-        record(t, r, |one, r| one.limit = bit8(r))
+        record(t, r, |one, r| one.limit = bit32(r))
     }),
     ("unused record's place: mark", |t, r| {
-        record(t, r, |one, r| some(&mut one.places, r).taken = true)
+        record(t, r, |one, r| some(&mut one.places, r).taken = 1)
     }),
     ("unused record's place: end point", |t, r| {
-        record(t, r, |one, r| some(&mut one.places, r).endpoint = bit32(r))
+        record(t, r, |one, r| *some(&mut one.endpoints, r) = bit32(r))
     }),
     ("unused record's place: Tunnel ID", |t, r| {
-        record(t, r, |one, r| some(&mut one.places, r).tunnel = bit16(r))
+        record(t, r, |one, r| some(&mut one.places, r).tunnel = bit32(r))
     }),
     ("unused record's place: extended", |t, r| {
         record(t, r, |one, r| some(&mut one.places, r).extended = bit32(r))
     }),
     ("unused record's place: LSP ID", |t, r| {
-        record(t, r, |one, r| some(&mut one.places, r).lsp = bit16(r))
+        record(t, r, |one, r| some(&mut one.places, r).lsp = bit32(r))
     }),
 ];
 
 fn bit8(random: &mut Random) -> u8 {
     1 << random.below(8)
-}
-
-fn bit16(random: &mut Random) -> u16 {
-    1 << random.below(16)
 }
 
 fn bit32(random: &mut Random) -> u32 {
@@ -124,7 +120,7 @@ fn place(table: &mut Table, random: &mut Random, change: fn(&mut Place, &mut Ran
         return false;
     };
     let places = table.calls[slot].places.iter_mut();
-    let mut free: Vec<&mut Place> = places.filter(|place| !place.taken).collect();
+    let mut free: Vec<&mut Place> = places.filter(|place| !is_taken(place)).collect();
     if free.is_empty() {
         return false;
     }
@@ -133,24 +129,24 @@ fn place(table: &mut Table, random: &mut Random, change: fn(&mut Place, &mut Ran
     true
 }
 
-/// Changes a free place of a customer's four.
-fn standalone(table: &mut Table, random: &mut Random, change: fn(&mut StandalonePlace, &mut Random)) -> bool {
+/// Changes a free place of a customer's four, or its end point.
+fn standalone(table: &mut Table, random: &mut Random, change: fn(&mut Place, &mut u32, &mut Random)) -> bool {
     let Some(customer) = some_customer(table, random) else {
         return false;
     };
-    let places = table.customers[customer].places.iter_mut();
-    let mut free: Vec<&mut StandalonePlace> = places.filter(|place| !place.taken).collect();
+    let customer = &mut table.customers[customer];
+    let free: Vec<usize> = (0..4).filter(|&place| !is_taken(&customer.places[place])).collect();
     if free.is_empty() {
         return false;
     }
-    let place = random.below(free.len());
-    change(free[place], random);
+    let place = *random.pick(&free);
+    change(&mut customer.places[place], &mut customer.endpoints[place], random);
     true
 }
 
 /// Changes a record behind those listed.
 fn record(table: &mut Table, random: &mut Random, change: fn(&mut Customer, &mut Random)) -> bool {
-    let listed = usize::from(table.listed);
+    let listed = table.listed as usize;
     if listed == 8 {
         return false;
     }

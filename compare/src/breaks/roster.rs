@@ -3,7 +3,7 @@
 use super::tools::*;
 use super::Break;
 use crate::random::Random;
-use crate::tables::{self, EMPTY, UNUSED};
+use crate::tables::{self, EMPTY};
 use second::table::{Customer, Table};
 
 pub const BREAKS: &[(&str, Break)] = &[
@@ -54,7 +54,7 @@ fn listed_fewer(table: &mut Table, _: &mut Random) -> bool {
         return false;
     }
     table.listed -= 1;
-    let last = table.customers[usize::from(table.listed)].address;
+    let last = table.customers[table.listed as usize].address;
     keep_calls(table, |_, call| call.sender != last);
     true
 }
@@ -83,7 +83,7 @@ fn empty_epoch(table: &mut Table, random: &mut Random) -> bool {
 
 fn empty_bit(table: &mut Table, random: &mut Random) -> bool {
     *table = EMPTY;
-    table.occupied = 1 << random.below(64);
+    tables::set_used(table, random.below(64), true);
     true
 }
 
@@ -95,14 +95,14 @@ fn empty_call(table: &mut Table, random: &mut Random) -> bool {
     let call = table.calls[slot];
     *table = EMPTY;
     table.calls[slot] = call;
-    table.occupied = u64::from(random.chance(1, 2)) << slot;
+    tables::set_used(table, slot, random.chance(1, 2));
     true
 }
 
 fn empty_standalone(table: &mut Table, random: &mut Random) -> bool {
     *table = EMPTY;
     let place = random.below(4);
-    table.customers[random.below(8)].places[place].taken = true;
+    table.customers[random.below(8)].places[place].taken = 1;
     true
 }
 
@@ -141,7 +141,7 @@ fn limit_next(table: &mut Table, random: &mut Random) -> bool {
 }
 
 fn limit_above(table: &mut Table, random: &mut Random) -> bool {
-    let limit = random.between(66, 255) as u8;
+    let limit = random.between(66, 255) as u32;
     with_customer(table, random, |one| one.limit = limit)
 }
 
@@ -151,7 +151,7 @@ fn guarantee_by_limit(table: &mut Table, random: &mut Random) -> bool {
         return false;
     };
     let one = table.customers[customer];
-    let fits = one.guarantee > 1 && tables::count(table, one.address) < usize::from(one.guarantee);
+    let fits = one.guarantee > 1 && tables::count(table, one.address) < one.guarantee as usize;
     if fits {
         table.customers[customer].limit = one.guarantee - 1;
     }
@@ -172,7 +172,7 @@ fn address_twice(table: &mut Table, random: &mut Random) -> bool {
     let bare = random.chance(1, 2);
     keep_calls(table, |_, call| call.sender != gone && !(bare && call.sender == stays));
     table.customers[other].address = table.customers[one].address;
-    table.customers[other].places = UNUSED.places;
+    drop_standalone_of(table, other);
     true
 }
 
@@ -187,7 +187,7 @@ fn guarantees_next(table: &mut Table, random: &mut Random) -> bool {
 }
 
 fn guarantees_above(table: &mut Table, _: &mut Random) -> bool {
-    let listed = usize::from(table.listed);
+    let listed = table.listed as usize;
     for customer in &mut table.customers[..listed] {
         (customer.guarantee, customer.limit) = (64, 64);
     }
@@ -198,8 +198,8 @@ fn guarantees_above(table: &mut Table, _: &mut Random) -> bool {
 fn above_its_guarantee(table: &mut Table, random: &mut Random) -> Option<(usize, usize)> {
     let (one, count) = customer_with(table, 1, random)?;
     let guarantee = &mut table.customers[one].guarantee;
-    *guarantee = (*guarantee).min(count as u8 - 1);
-    let others: Vec<usize> = (0..usize::from(table.listed)).filter(|&other| other != one).collect();
+    *guarantee = (*guarantee).min(count as u32 - 1);
+    let others: Vec<usize> = (0..table.listed as usize).filter(|&other| other != one).collect();
     (!others.is_empty()).then(|| (one, *random.pick(&others)))
 }
 
@@ -227,7 +227,7 @@ fn calls_by_limit(table: &mut Table, random: &mut Random) -> bool {
         return false;
     };
     let one = &mut table.customers[customer];
-    one.limit = random.between(1, count - 1) as u8;
+    one.limit = random.between(1, count - 1) as u32;
     one.guarantee = one.guarantee.min(one.limit);
     true
 }
@@ -238,7 +238,7 @@ fn calls_by_call(table: &mut Table, random: &mut Random) -> bool {
         return false;
     };
     let one = &mut table.customers[customer];
-    one.limit = count as u8;
+    one.limit = count as u32;
     one.guarantee = one.guarantee.min(one.limit);
     tables::taken(table) < 64 && add_call(table, customer, random)
 }

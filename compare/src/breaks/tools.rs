@@ -1,15 +1,14 @@
 //! Small changes that breakings and near misses are put together from.
 
 use crate::random::Random;
-use crate::tables::{self, FREE_CALL, FREE_PLACE, FREE_STANDALONE};
-use second::table::{Call, Place, StandalonePlace, Table};
+use crate::tables::{self, is_taken, FREE_CALL, FREE_PLACE};
+use second::table::{Call, Place, Table};
 
 /// An end point that no call and no connection of the table has.
 pub fn fresh_endpoint(table: &Table, random: &mut Random) -> u32 {
     loop {
         let address = random.word();
-        let standalone = tables::listed(table).iter().flat_map(|one| &one.places);
-        let known = standalone.map(|place| place.endpoint);
+        let known = tables::listed(table).iter().flat_map(|one| one.endpoints);
         let mut known = known.chain(tables::calls(table).map(|call| call.endpoint));
         if !known.any(|endpoint| endpoint == address) {
             return address;
@@ -30,9 +29,9 @@ pub fn unlisted(table: &Table, random: &mut Random) -> u32 {
 }
 
 /// A short ID that no call has.
-pub fn fresh_id(table: &Table, random: &mut Random) -> u16 {
+pub fn fresh_id(table: &Table, random: &mut Random) -> u32 {
     loop {
-        let id = random.half();
+        let id = u32::from(random.half());
         if id != 0 && tables::calls(table).all(|call| call.id != id) {
             return id;
         }
@@ -40,7 +39,7 @@ pub fn fresh_id(table: &Table, random: &mut Random) -> u16 {
 }
 
 pub fn set_name(call: &mut Call, name: &[u8]) {
-    call.size = name.len() as u8;
+    call.size = name.len() as u32;
     call.name = [0; 32];
     call.name[..name.len()].copy_from_slice(name);
 }
@@ -93,36 +92,41 @@ pub fn keep_calls(table: &mut Table, keep: impl Fn(usize, &Call) -> bool) {
     for slot in tables::used(table) {
         if !keep(slot, &table.calls[slot]) {
             table.calls[slot] = FREE_CALL;
-            table.occupied &= !(1 << slot);
+            tables::set_used(table, slot, false);
         }
     }
 }
 
 /// Removes all connections of Call ID 0.
 pub fn drop_standalone(table: &mut Table) {
-    for customer in &mut table.customers {
-        customer.places = [FREE_STANDALONE; 4];
-    }
+    (0..8).for_each(|customer| drop_standalone_of(table, customer));
+}
+
+/// Removes those of one customer.
+pub fn drop_standalone_of(table: &mut Table, customer: usize) {
+    let customer = &mut table.customers[customer];
+    (customer.endpoints, customer.places) = ([0; 4], [FREE_PLACE; 4]);
 }
 
 /// Numbers that no connection of the table has.
 pub fn fresh_place(table: &Table, random: &mut Random) -> Place {
     let mut place = Place {
-        taken: true,
-        tunnel: random.half(),
+        taken: 1,
+        tunnel: random.half().into(),
         extended: random.word(),
-        lsp: random.half(),
+        lsp: random.half().into(),
     };
-    while tables::held(table).iter().any(|held| held.connection.lsp == place.lsp) {
-        place.lsp = place.lsp.wrapping_add(1);
+    let held = tables::held(table);
+    while held.iter().any(|held| u32::from(held.connection.lsp) == place.lsp) {
+        place.lsp = (place.lsp + 1) & 0xffff;
     }
     place
 }
 
 /// A place under the call, and one of the table's connections in it: a held one or, if there is none, a fresh one.
 pub fn some_place(table: &mut Table, slot: usize, random: &mut Random) -> usize {
-    let is_taken = |&place: &usize| table.calls[slot].places[place].taken;
-    let taken: Vec<usize> = (0..4).filter(is_taken).collect();
+    let places = &table.calls[slot].places;
+    let taken: Vec<usize> = (0..4).filter(|&place| is_taken(&places[place])).collect();
     if !taken.is_empty() {
         return *random.pick(&taken);
     }
@@ -133,31 +137,26 @@ pub fn some_place(table: &mut Table, slot: usize, random: &mut Random) -> usize 
 
 /// A place of the customer's four that holds a connection, a fresh one if there was none.
 pub fn some_standalone(table: &mut Table, customer: usize, random: &mut Random) -> usize {
-    let is_taken = |&place: &usize| table.customers[customer].places[place].taken;
-    let taken: Vec<usize> = (0..4).filter(is_taken).collect();
+    let places = &table.customers[customer].places;
+    let taken: Vec<usize> = (0..4).filter(|&place| is_taken(&places[place])).collect();
     if !taken.is_empty() {
         return *random.pick(&taken);
     }
     let place = random.below(4);
     let endpoint = fresh_endpoint(table, random);
     let fresh = fresh_place(table, random);
-    table.customers[customer].places[place] = standalone(&fresh, endpoint);
+    set_standalone(table, customer, place, (fresh, endpoint));
     place
 }
 
-/// The same numbers in a customer's four.
-pub fn standalone(place: &Place, endpoint: u32) -> StandalonePlace {
-    StandalonePlace {
-        taken: true,
-        endpoint,
-        tunnel: place.tunnel,
-        extended: place.extended,
-        lsp: place.lsp,
-    }
+/// Puts a connection's numbers and end point into a customer's four.
+pub fn set_standalone(table: &mut Table, customer: usize, place: usize, (numbers, endpoint): (Place, u32)) {
+    table.customers[customer].places[place] = numbers;
+    table.customers[customer].endpoints[place] = endpoint;
 }
 
 pub fn some_customer(table: &Table, random: &mut Random) -> Option<usize> {
-    (table.listed > 0).then(|| random.below(usize::from(table.listed)))
+    (table.listed > 0).then(|| random.below(table.listed as usize))
 }
 
 /// Two listed customers, in any order.
@@ -165,7 +164,7 @@ pub fn two_customers(table: &Table, random: &mut Random) -> Option<(usize, usize
     if table.listed < 2 {
         return None;
     }
-    let mut customers: Vec<usize> = (0..usize::from(table.listed)).collect();
+    let mut customers: Vec<usize> = (0..table.listed as usize).collect();
     random.shuffle(&mut customers);
     Some((customers[0], customers[1]))
 }
@@ -181,7 +180,7 @@ pub fn customer_of(table: &Table, address: u32) -> usize {
 /// A customer that has at least this many calls, and its count.
 pub fn customer_with(table: &Table, least: usize, random: &mut Random) -> Option<(usize, usize)> {
     let count = |&customer: &usize| tables::count(table, table.customers[customer].address);
-    let mut customers: Vec<usize> = (0..usize::from(table.listed)).collect();
+    let mut customers: Vec<usize> = (0..table.listed as usize).collect();
     random.shuffle(&mut customers);
     let found = customers.into_iter().find(|customer| count(customer) >= least)?;
     Some((found, count(&found)))
@@ -200,7 +199,7 @@ pub fn add_call(table: &mut Table, customer: usize, random: &mut Random) -> bool
     call.sender = table.customers[customer].address;
     call.id = id;
     fresh_name(call, random);
-    table.occupied |= 1 << slot;
+    tables::set_used(table, slot, true);
     true
 }
 
@@ -208,8 +207,8 @@ pub fn add_call(table: &mut Table, customer: usize, random: &mut Random) -> bool
 pub fn raise_taken(table: &mut Table, customer: usize, sum: usize) {
     let before = tables::taken(table);
     let one = &table.customers[customer];
-    let larger = tables::count(table, one.address).max(usize::from(one.guarantee));
+    let larger = tables::count(table, one.address).max(one.guarantee as usize);
     let one = &mut table.customers[customer];
-    one.guarantee = (larger + sum - before) as u8;
+    one.guarantee = (larger + sum - before) as u32;
     one.limit = one.limit.max(one.guarantee);
 }

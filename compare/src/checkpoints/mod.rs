@@ -1,7 +1,7 @@
 //! A13: checkpoints, written by both programs and read by both, plain and with salvage. A written checkpoint is read as
 //! it is, damaged, or under another roster; others are generated.
 
-mod both;
+pub(crate) mod both;
 mod calls;
 mod connections;
 mod damage;

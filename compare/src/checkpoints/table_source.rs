@@ -73,7 +73,7 @@ impl TableSource {
         }
         let roster = rosters::shaped(shape, random);
         self.values = Values::new(&roster, random);
-        self.table = both::roster(&roster.bytes())?.1;
+        self.table = both::roster(&roster.bytes(), random)?.1;
         (self.mode, self.left) = (FILL, TABLES);
         Ok(())
     }
@@ -100,8 +100,8 @@ fn nearly_break(table: &mut Table, random: &mut Random) {
 pub fn roster_of(table: &Table) -> Roster {
     let record = |one: &second::table::Customer| Record {
         address: one.address,
-        guarantee: one.guarantee,
-        limit: one.limit,
+        guarantee: one.guarantee as u8,
+        limit: one.limit as u8,
         spare: 0,
     };
     Roster {

@@ -8,6 +8,7 @@ use super::tally::Tally;
 use super::writing;
 use crate::both::{roster as read_roster, same_tables};
 use crate::form;
+use crate::random::Random;
 use second::table::Table;
 use second::Node;
 
@@ -20,7 +21,7 @@ enum Due {
 }
 
 pub fn read(roster: &[u8], checkpoint: &[u8], tally: &mut Tally) -> Result<(), String> {
-    let (_, fresh, _) = read_roster(roster)?;
+    let (_, fresh, _) = read_roster(roster, &mut Random::new(0))?;
     let due = due(roster, &fresh, checkpoint);
     for salvages in [false, true] {
         let what = if salvages { "salvage" } else { "plain" };
@@ -71,9 +72,9 @@ fn check(read: &Read, due: &Due, salvages: bool, fresh: &Table) -> Result<(), St
         return Err("the table breaks a rule".into());
     }
     let mut emptied = read.table;
-    (emptied.occupied, emptied.calls) = (0, fresh.calls);
+    (emptied.occupied, emptied.calls) = ([0; 2], fresh.calls);
     for (customer, record) in emptied.customers.iter_mut().zip(&fresh.customers) {
-        customer.places = record.places;
+        (customer.endpoints, customer.places) = (record.endpoints, record.places);
     }
     same_tables(&emptied, fresh).map_err(|what| format!("besides calls and connections, {what}"))
 }

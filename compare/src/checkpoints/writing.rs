@@ -9,7 +9,7 @@ use crate::breaks;
 use crate::build::Roster;
 use crate::random::Random;
 use crate::rosters::{shaped, Shape};
-use crate::tables;
+use crate::tables::{self, is_taken};
 use crate::trials::hex;
 use second::table::Table;
 
@@ -90,10 +90,14 @@ fn closed_up(table: &Table) -> Table {
     let mut table = *table;
     table.next = 1;
     for call in &mut table.calls {
-        call.places.sort_by_key(|place| !place.taken);
+        call.places.sort_by_key(|place| !is_taken(place));
     }
     for customer in &mut table.customers {
-        customer.places.sort_by_key(|place| !place.taken);
+        let mut both: Vec<_> = customer.places.into_iter().zip(customer.endpoints).collect();
+        both.sort_by_key(|(place, _)| !is_taken(place));
+        for (at, (place, endpoint)) in both.into_iter().enumerate() {
+            (customer.places[at], customer.endpoints[at]) = (place, endpoint);
+        }
     }
     table
 }

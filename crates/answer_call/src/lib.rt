@@ -3,16 +3,14 @@ ghost use mathlib.Core.Path.{_≡_};
 ghost use mathlib.Core.Bool.{true};
 ghost use Prim.Native.Nat.{_≤_};
 ghost use lib.ListN.{length};
-ghost use Rattle.numbers.specs.Buffer.{atFront};
 ghost use Rattle.messages.specs.Inside.{CallInside};
 ghost use Rattle.messages.specs.declared.message.Message.the-variants.{Open, Close};
-ghost use Rattle.replies.specs.Messages.{notifyBytes};
 ghost use Rattle.table.specs.Lists.{roster};
 ghost use Rattle.table.specs.Share.{listed};
 ghost use Rattle.table.specs.Rules.{rulesHold};
-ghost use Rattle.spec_changes.specs.Calls.{identifierTaken};
-ghost use Rattle.spec_calls.specs.Handling.{ownId, notifyFor};
+ghost use Rattle.table.specs.Words.{tableOf};
 ghost use Rattle.outcomes.specs.Outcomes.{handedBack, ruled};
+ghost use Rattle.answer_call.specs.Notified.{Notified};
 use answers::answer::Answer;
 use find_call::request::look_up;
 use find_call::share::share_used_up;
@@ -22,17 +20,20 @@ use messages::status::D;
 use objects::fields::MessageId;
 use outcomes::outcome::Outcome;
 use outcomes::sending::send_notify;
-use table::state::Table;
+use table::layout::Words;
+use table::word::lowest_free;
+use table_words::head::address;
+use table_words::head::epoch;
+use table_words::head::next;
+use table_words::head::occupied;
 use update_call::slots::close_slot;
 use update_call::slots::open_slot;
 use update_call::slots::take_identifier;
 
-// A Notify with the answer goes out, and takes the next own identifier: t is the table before, u the one after the
-// change. Here and below, the request's parts lie within the message, as its reading promises, and the buffer has
-// answer 2's room.
+// A Notify with the answer goes out, and takes the next own identifier. Here and below, the request's parts lie within
+// the message, as its reading promises, and the buffer has answer 2's room.
 fn notified(
-    t: Table,
-    u: Table,
+    t: &mut Words,
     msg: &[u8],
     q: CallRequest,
     status: u32,
@@ -40,57 +41,54 @@ fn notified(
     reply: &mut [u8],
 ) -> Outcome
     requires { ⌜ CallInside (now msg) q × (128 ≤ length (now reply)) ⌝ }
-    ensures { λ r. ⌜ (r .answer ≡ a) × (r .length ≡ length (notifyBytes (now (msg .entry)) (notifyFor (t .address) (ownId t) q status a))) × (r .table ≡ identifierTaken u) × (now (reply .exit) ≡ atFront (notifyBytes (now (msg .entry)) (notifyFor (t .address) (ownId t) q status a)) (now (reply .entry))) ⌝ }
+    ensures { λ r. ⌜ Notified (tableOf (now (t .entry))) (now (msg .entry)) q status a (now (reply .entry)) r (tableOf (now (t .exit))) (now (reply .exit)) ⌝ }
 {
     let own = MessageId {
-        epoch: t.epoch,
-        identifier: t.next,
+        epoch: epoch(t),
+        identifier: next(t),
     };
-    let length = send_notify(t.address, own, msg, q, status, a, reply);
-    let table = take_identifier(u);
-    Outcome {
-        answer: a,
-        length,
-        table,
-    }
+    let node = address(t);
+    let length = send_notify(node, own, msg, q, status, a, reply);
+    take_identifier(t);
+    Outcome { answer: a, length }
 }
 
 // 21, 31, 30, 34, 20. The rules hold and the sender is listed, so that a call that may be opened has a free slot.
-pub fn open_call(t: Table, msg: &[u8], q: CallRequest, reply: &mut [u8]) -> Outcome
-    requires { ⌜ (rulesHold t ≡ true) × (listed (roster t) (q .sender) ≡ true) × CallInside (now msg) q × (128 ≤ length (now reply)) ⌝ }
-    ensures { λ r. ⌜ handedBack r (now (reply .exit)) ≡ ruled t (now (msg .entry)) (now (reply .entry)) (Open q) ⌝ }
+pub fn open_call(t: &mut Words, msg: &[u8], q: CallRequest, reply: &mut [u8]) -> Outcome
+    requires { ⌜ (rulesHold (tableOf (now t)) ≡ true) × (listed (roster (tableOf (now t))) (q .sender) ≡ true) × CallInside (now msg) q × (128 ≤ length (now reply)) ⌝ }
+    ensures { λ r. ⌜ handedBack r (tableOf (now (t .exit))) (now (reply .exit)) ≡ ruled (tableOf (now (t .entry))) (now (msg .entry)) (now (reply .entry)) (Open q) ⌝ }
 {
     let k = look_up(t, msg, q);
     if k.known {
-        return notified(t, t, msg, q, C, Answer::CallAlreadyOpen, reply);
+        return notified(t, msg, q, C, Answer::CallAlreadyOpen, reply);
     }
     if k.long {
-        return notified(t, t, msg, q, C, Answer::DuplicateCall, reply);
+        return notified(t, msg, q, C, Answer::DuplicateCall, reply);
     }
     if k.short {
-        return notified(t, t, msg, q, C, Answer::CallIdContention, reply);
+        return notified(t, msg, q, C, Answer::CallIdContention, reply);
     }
     if share_used_up(t, q.sender) {
-        return notified(t, t, msg, q, C, Answer::NoShare, reply);
+        return notified(t, msg, q, C, Answer::NoShare, reply);
     }
-    let u = open_slot(t, msg, q);
-    notified(t, u, msg, q, C, Answer::CallOpened, reply)
+    let slot = lowest_free(occupied(t));
+    open_slot(t, slot, msg, q);
+    notified(t, msg, q, C, Answer::CallOpened, reply)
 }
 
 // 33, 32, 22.
-pub fn close_call(t: Table, msg: &[u8], q: CallRequest, reply: &mut [u8]) -> Outcome
-    requires { ⌜ (rulesHold t ≡ true) × CallInside (now msg) q × (128 ≤ length (now reply)) ⌝ }
-    ensures { λ r. ⌜ handedBack r (now (reply .exit)) ≡ ruled t (now (msg .entry)) (now (reply .entry)) (Close q) ⌝ }
+pub fn close_call(t: &mut Words, msg: &[u8], q: CallRequest, reply: &mut [u8]) -> Outcome
+    requires { ⌜ (rulesHold (tableOf (now t)) ≡ true) × CallInside (now msg) q × (128 ≤ length (now reply)) ⌝ }
+    ensures { λ r. ⌜ handedBack r (tableOf (now (t .exit))) (now (reply .exit)) ≡ ruled (tableOf (now (t .entry))) (now (msg .entry)) (now (reply .entry)) (Close q) ⌝ }
 {
     let k = look_up(t, msg, q);
     let status = C + D;
     if !k.known {
-        return notified(t, t, msg, q, status, Answer::UnknownCall, reply);
+        return notified(t, msg, q, status, Answer::UnknownCall, reply);
     }
     if k.busy {
-        return notified(t, t, msg, q, status, Answer::ConnectionsStillExist, reply);
+        return notified(t, msg, q, status, Answer::ConnectionsStillExist, reply);
     }
-    let slot = k.slot;
-    let u = close_slot(t, slot);
-    notified(t, u, msg, q, status, Answer::CallClosed, reply)
+    close_slot(t, k.slot);
+    notified(t, msg, q, status, Answer::CallClosed, reply)
 }

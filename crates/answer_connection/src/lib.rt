@@ -12,6 +12,7 @@ ghost use Rattle.replies.specs.Messages.{pathErrBytes};
 ghost use Rattle.table.specs.Lists.{roster};
 ghost use Rattle.table.specs.Share.{listed};
 ghost use Rattle.table.specs.Rules.{rulesHold};
+ghost use Rattle.table.specs.Words.{tableOf};
 ghost use Rattle.spec_calls.specs.Handling.{pathErrFor};
 ghost use Rattle.outcomes.specs.Outcomes.{handedBack, ruled};
 use answers::answer::Answer;
@@ -21,25 +22,22 @@ use messages::message::Connection;
 use outcomes::outcome::Outcome;
 use outcomes::outcome::unanswered;
 use outcomes::sending::send_path_err;
-use table::state::Table;
-use update_connection::standalone::add_standalone;
-use update_connection::standalone::customer_of;
-use update_connection::standalone::remove_standalone;
-use update_connection::under::add_under;
-use update_connection::under::remove_under;
+use table::layout::Words;
+use table_words::head::address;
+use update_connection::add_standalone;
+use update_connection::add_under;
+use update_connection::customer_of;
+use update_connection::remove_standalone;
+use update_connection::remove_under;
 
 // A PathErr goes out; the table stays. Here and below, the message's parts lie within it, as its reading promises, and
 // the buffer has answer 2's room.
-fn path_refused(t: Table, msg: &[u8], c: Connection, a: Answer, reply: &mut [u8]) -> Outcome
+fn path_refused(t: &Words, msg: &[u8], c: Connection, a: Answer, reply: &mut [u8]) -> Outcome
     requires { ⌜ ConnectionInside (now msg) c × (128 ≤ length (now reply)) ⌝ }
-    ensures { λ r. ⌜ (r .answer ≡ a) × (r .length ≡ length (pathErrBytes (now (msg .entry)) (pathErrFor (t .address) c a))) × (r .table ≡ t) × (now (reply .exit) ≡ atFront (pathErrBytes (now (msg .entry)) (pathErrFor (t .address) c a)) (now (reply .entry))) ⌝ }
+    ensures { λ r. ⌜ (r .answer ≡ a) × (r .length ≡ length (pathErrBytes (now (msg .entry)) (pathErrFor (tableOf (now (t .entry)) .address) c a))) × (now (reply .exit) ≡ atFront (pathErrBytes (now (msg .entry)) (pathErrFor (tableOf (now (t .entry)) .address) c a)) (now (reply .entry))) ⌝ }
 {
-    let length = send_path_err(t.address, msg, c, a, reply);
-    Outcome {
-        answer: a,
-        length,
-        table: t,
-    }
+    let length = send_path_err(address(t), msg, c, a, reply);
+    Outcome { answer: a, length }
 }
 
 // Four connections already, some of them under calls and some of Call ID 0.
@@ -54,17 +52,17 @@ fn is_full(under: usize, standalone: usize) -> bool
 
 // 14, 24, 35, 37, 23. The rules hold and the sender is listed, so that there is a place for a connection that may be
 // added.
-pub fn add_connection(t: Table, msg: &[u8], c: Connection, reply: &mut [u8]) -> Outcome
-    requires { ⌜ (rulesHold t ≡ true) × (listed (roster t) (c .sender) ≡ true) × ConnectionInside (now msg) c × (128 ≤ length (now reply)) ⌝ }
-    ensures { λ r. ⌜ handedBack r (now (reply .exit)) ≡ ruled t (now (msg .entry)) (now (reply .entry)) (Add c) ⌝ }
+pub fn add_connection(t: &mut Words, msg: &[u8], c: Connection, reply: &mut [u8]) -> Outcome
+    requires { ⌜ (rulesHold (tableOf (now t)) ≡ true) × (listed (roster (tableOf (now t))) (c .sender) ≡ true) × ConnectionInside (now msg) c × (128 ≤ length (now reply)) ⌝ }
+    ensures { λ r. ⌜ handedBack r (tableOf (now (t .exit))) (now (reply .exit)) ≡ ruled (tableOf (now (t .entry))) (now (msg .entry)) (now (reply .entry)) (Add c) ⌝ }
 {
     let u = look_under(t, c);
     let l = look_standalone(t, c);
     if u.other | l.other {
-        return unanswered(t, Answer::UnderOtherCall);
+        return unanswered(Answer::UnderOtherCall);
     }
     if u.held | l.held {
-        return unanswered(t, Answer::ConnectionAlreadyHeld);
+        return unanswered(Answer::ConnectionAlreadyHeld);
     }
     let none = c.call.0 == 0;
     if !none & !u.known {
@@ -75,26 +73,27 @@ pub fn add_connection(t: Table, msg: &[u8], c: Connection, reply: &mut [u8]) -> 
     }
     if none {
         let k = customer_of(t, c.sender);
-        return unanswered(add_standalone(t, k, c), Answer::ConnectionAdded);
+        add_standalone(t, k, c);
+        return unanswered(Answer::ConnectionAdded);
     }
-    let slot = u.slot;
-    unanswered(add_under(t, slot, c), Answer::ConnectionAdded)
+    add_under(t, u.slot, c);
+    unanswered(Answer::ConnectionAdded)
 }
 
 // 15, 25. Nothing is sent back, so the message's bytes are not needed.
-pub fn drop_connection(t: Table, c: Connection, reply: &mut [u8]) -> Outcome
-    requires { ⌜ rulesHold t ≡ true ⌝ }
-    ensures { λ r. ⌜ handedBack r (now (reply .exit)) ≡ ruled t [] (now (reply .entry)) (Drop c) ⌝ }
+pub fn drop_connection(t: &mut Words, c: Connection, reply: &mut [u8]) -> Outcome
+    requires { ⌜ rulesHold (tableOf (now t)) ≡ true ⌝ }
+    ensures { λ r. ⌜ handedBack r (tableOf (now (t .exit))) (now (reply .exit)) ≡ ruled (tableOf (now (t .entry))) [] (now (reply .entry)) (Drop c) ⌝ }
 {
     let u = look_under(t, c);
     if u.held {
-        let slot = u.at;
-        return unanswered(remove_under(t, slot, c), Answer::ConnectionRemoved);
+        remove_under(t, u.at, c);
+        return unanswered(Answer::ConnectionRemoved);
     }
     let l = look_standalone(t, c);
     if l.held {
-        let k = l.at;
-        return unanswered(remove_standalone(t, k, c), Answer::ConnectionRemoved);
+        remove_standalone(t, l.at, c);
+        return unanswered(Answer::ConnectionRemoved);
     }
-    unanswered(t, Answer::NotHeld)
+    unanswered(Answer::NotHeld)
 }

@@ -2,13 +2,14 @@
 // stands beside chaffmoor's; the node does not use it.
 ghost use mathlib.Core.Path.{_≡_};
 ghost use Rattle.table.specs.Rules.{rulesHold};
+ghost use Rattle.table.specs.Words.{tableOf};
 ghost use Rattle.messages.specs.Read.{readOf};
 ghost use Rattle.bench_parts.specs.Number.{readNumber};
 use messages::read::Reading;
 use messages::read::read;
 use objects::fault::number;
 use rules::rules_hold;
-use table::state::Table;
+use table::layout::Words;
 
 // The fault of form that the bytes alone show, 0 where there is none.
 fn read_number(r: Reading) -> u8
@@ -40,8 +41,8 @@ pub extern "C" fn chaffmoor_part_read(message: &[u8]) -> u8
 }
 
 #[no_mangle]
-pub extern "C" fn chaffmoor_part_rules(table: Table) -> bool
-    ensures { λ r. ⌜ r ≡ rulesHold table ⌝ }
+pub extern "C" fn chaffmoor_part_rules(table: &Words) -> bool
+    ensures { λ r. ⌜ r ≡ rulesHold (tableOf (now (table .entry))) ⌝ }
 {
     rules_hold(table)
 }

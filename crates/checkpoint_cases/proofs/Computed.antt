@@ -7,7 +7,7 @@ use Rattle.numbers.specs.Search.{zerosAt}
 use Rattle.lists.specs.Below.{when, listIf, below, everyBelow, firstBelow}
 use Rattle.table.specs.Zeros.{noCall, noCustomer, emptyTable}
 use Rattle.table.specs.Share.{S}
-use Rattle.table.specs.Rules.{badShare, acceptable, rosterHolds, sameBytes, sameShort, sameLong, validIds, sameLsp, placeClear, standalonePlaceClear, callFreeClear, callClear, customerFreeClear, customerClear, rulesHold}
+use Rattle.table.specs.Rules.{badShare, acceptable, rosterHolds, sameBytes, sameShort, sameLong, validIds, sameLsp, placeClear, placeValid, callFreeClear, callClear, customerFreeClear, customerClear, rulesHold}
 use Rattle.table.specs.Roster.{badForm, recordsAnswer, rosterAnswer, customersFrom, freshTable, tableFor}
 use Rattle.spec_changes.specs.Connections.{addedUnder, addedStandalone, added}
 use Rattle.spec_checkpoint.specs.Salvage.{soundAlone, namedBy, keptByLongId, callFits, withCalls, connectionFits, withConnections, salvaged}
@@ -15,5 +15,5 @@ use Rattle.spec_checkpoint.specs.Restored.{badSize, fromCheckpoint, restored}
 use Rattle.checkpoint_cases.specs.Twins.{rows, read, expected}
 
 pub rows-hold : map read rows ≡ map expected rows
-unfolding rows atFront zerosAt when listIf below everyBelow firstBelow noCall noCustomer emptyTable S badShare acceptable rosterHolds sameBytes sameShort sameLong validIds sameLsp placeClear standalonePlaceClear callFreeClear callClear customerFreeClear customerClear rulesHold badForm recordsAnswer rosterAnswer customersFrom freshTable tableFor addedUnder addedStandalone added soundAlone namedBy keptByLongId callFits withCalls connectionFits withConnections salvaged badSize fromCheckpoint restored
+unfolding rows atFront zerosAt when listIf below everyBelow firstBelow noCall noCustomer emptyTable S badShare acceptable rosterHolds sameBytes sameShort sameLong validIds sameLsp placeClear placeValid callFreeClear callClear customerFreeClear customerClear rulesHold badForm recordsAnswer rosterAnswer customersFrom freshTable tableFor addedUnder addedStandalone added soundAlone namedBy keptByLongId callFits withCalls connectionFits withConnections salvaged badSize fromCheckpoint restored
 rows-hold = refl

@@ -12,7 +12,7 @@ use borrow.Author.Tests.{eqb-true, eqb-false, ltb-true}
 use Rattle.lists.specs.Count.{bit}
 use Rattle.lists.specs.Below.{everyBelow}
 use Rattle.lists.proofs.Tests.{both}
-use Rattle.table.specs.declared.state.Table.{Table}
+use Rattle.table.specs.Table.{Table}
 use Rattle.table.specs.Total.{total}
 use Rattle.table.specs.Lists.{idsOf}
 use Rattle.table.specs.Rules.{sameLong}

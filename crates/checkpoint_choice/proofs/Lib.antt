@@ -1,3 +1,4 @@
-pub mod Tests
 pub mod Named
+pub mod Tests
+pub mod Names
 pub mod Best

@@ -7,11 +7,9 @@ use mathlib.Core.Bool.{true}
 use Rattle.lists.specs.Count.{bit, count}
 use Rattle.lists.specs.Below.{when, below}
 use Rattle.lists.proofs.Below.{count-turn}
-use Rattle.table.specs.declared.state.Call.{Call}
-use Rattle.table.specs.Lists.{idsOf, Held}
+use Rattle.table.specs.Lists.{Ids, idsOf, Held}
 use Rattle.spec_changes.specs.Connections.{isUnder}
-use Rattle.spec_checkpoint.specs.declared.record.Slotted.{Slotted}
-use Rattle.spec_checkpoint.specs.Layout.{heldAtByte}
+use Rattle.spec_checkpoint.specs.Layout.{Slotted, heldAtByte}
 use Rattle.spec_checkpoint.specs.Salvage.{namedBy}
 use Rattle.checkpoint_choice.specs.Sized.{Sized}
 
@@ -19,10 +17,10 @@ use Rattle.checkpoint_choice.specs.Sized.{Sized}
 abbrev pub recordsFrom : List ℕ → ℕ → ℕ → List Held
 recordsFrom s base k = below (λ j. heldAtByte s (base + 18 * j) ∷ []) k
 
-pub named-turn : (s : List ℕ) (base k n r : ℕ) (c : Call) → n ≡ count (isUnder (idsOf c)) (recordsFrom s base k) → r ≡ bit (isUnder (idsOf c) (heldAtByte s (base + 18 * k)))
-    → n + r ≡ count (isUnder (idsOf c)) (recordsFrom s base (k + 1))
+pub named-turn : (s : List ℕ) (base k n r : ℕ) (c : Ids) → n ≡ count (isUnder c) (recordsFrom s base k) → r ≡ bit (isUnder c (heldAtByte s (base + 18 * k)))
+    → n + r ≡ count (isUnder c) (recordsFrom s base (k + 1))
 unfolding when
-named-turn s base k n r c e h = count-turn (λ j. heldAtByte s (base + 18 * j) ∷ []) (isUnder (idsOf c)) k n r true (heldAtByte s (base + 18 * k)) refl e h
+named-turn s base k n r c e h = count-turn (λ j. heldAtByte s (base + 18 * j) ∷ []) (isUnder c) k n r true (heldAtByte s (base + 18 * k)) refl e h
 
 pub named-all : (s : List ℕ) (n k m : ℕ) (r : Slotted) → Sized s n k → m ≡ count (isUnder (idsOf (r .call))) (recordsFrom s (4 + 55 * n) k) → m ≡ namedBy s r
 unfolding namedBy

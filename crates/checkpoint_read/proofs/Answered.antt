@@ -2,14 +2,14 @@
 -- Assumes nothing.
 use Prim.Native.Nat.{ℕ, _-_, _<_, _≤_}
 use native.Mathlib.Omega.{arith}
-use mathlib.Core.Path.{_≡_, _∙_}
+use mathlib.Core.Path.{_≡_, sym, _∙_}
 use mathlib.Core.List.{List}
 use mathlib.Core.Bool.{Bool, true, false, _||_}
 use lib.Dec.{eqb}
 use lib.ListN.{length}
 use borrow.Author.Tests.{lt-ltb, le-ltb, eq-eqb, ne-eqb}
 use Rattle.table.specs.declared.answer.RosterAnswer.{RosterAnswer}
-use Rattle.table.specs.declared.state.Table.{Table}
+use Rattle.table.specs.Table.{Table}
 use Rattle.table.specs.Lists.{entries, held}
 use Rattle.table.specs.Roster.{rosterNumber, rosterAnswer, freshTable, tableFor, formIn}
 use Rattle.spec_checkpoint.specs.Layout.{callsIn, connectionsIn, checkpointSize}
@@ -71,6 +71,7 @@ module _ (salvage : Bool) (r s : List ℕ) (a : RosterAnswer) (n : ℕ) (fresh :
     unfolding restored
     checkpoint-read d = rw (accepted h, b, eq-eqb (formIn s) 1 form, rw checkpoint-is at d) checkpoint-is
 
-    pub checkpoint-refused : (salvage || dropsNone f) ≡ false → unrestored 72 fresh ≡ restored salvage r s
+    -- the roster read again gives its table again
+    pub checkpoint-refused : (again : Table) → again ≡ tableFor (rosterAnswer r) r → (salvage || dropsNone f) ≡ false → unrestored 72 again ≡ restored salvage r s
     unfolding restored
-    checkpoint-refused d = rw (accepted h, b, eq-eqb (formIn s) 1 form, rw checkpoint-is at d, fresh-is h)
+    checkpoint-refused again e d = rw (accepted h, b, eq-eqb (formIn s) 1 form, rw checkpoint-is at d, e ∙ sym table ∙ fresh-is h)

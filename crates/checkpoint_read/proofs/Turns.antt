@@ -5,20 +5,19 @@ use native.Mathlib.Numerals.{add-one}
 use mathlib.Core.Path.{_≡_, refl}
 use mathlib.Core.List.{List}
 use mathlib.Core.Bool.{Bool, cond, _&&_}
-use Rattle.table.specs.declared.state.Table.{Table}
+use Rattle.table.specs.Table.{Table}
 use Rattle.table.specs.Lists.{Held}
 use Rattle.spec_changes.specs.Connections.{added}
-use Rattle.spec_checkpoint.specs.declared.record.Slotted.{Slotted}
 use Rattle.spec_checkpoint.specs.Layout.{callRecord, heldAtByte}
 use Rattle.spec_checkpoint.specs.Salvage.{placed, keptByLongId, callFits, withCalls, connectionFits, withConnections}
 use Rattle.checkpoint_choice.specs.Sized.{Sized}
 
 -- ---- calls
 
-pub calls-turn : (fresh : Table) (s : List ℕ) (i : ℕ) (t u : Table) (b : Bool) (r : Slotted) → t ≡ withCalls fresh s i → b ≡ keptByLongId fresh s i → r ≡ callRecord s i
-    → u ≡ cond (b && callFits t r) (placed t r) t → u ≡ withCalls fresh s (i + 1)
+pub calls-turn : (fresh : Table) (s : List ℕ) (i : ℕ) (t u : Table) (b : Bool) → t ≡ withCalls fresh s i → b ≡ keptByLongId fresh s i
+    → u ≡ cond (b && callFits t (callRecord s i)) (placed t (callRecord s i)) t → u ≡ withCalls fresh s (i + 1)
 unfolding withCalls
-calls-turn fresh s i t u b r e h k q = rw (add-one i) (rw (e, h, k) at q)
+calls-turn fresh s i t u b e h q = rw (add-one i) (rw (e, h) at q)
 
 pub calls-none : (fresh : Table) (s : List ℕ) → fresh ≡ withCalls fresh s 0
 unfolding withCalls

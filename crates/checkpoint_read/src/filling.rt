@@ -1,42 +1,41 @@
-// The table filled from a checkpoint's records, the calls first.
+// The table filled from a checkpoint's records, the calls first. The checkpoint has so many of them: its size has been
+// tested, and each count has its bits.
 ghost use mathlib.Core.Path.{_≡_};
+ghost use Prim.Native.Nat.{_<_};
+ghost use Rattle.table.specs.Words.{tableOf};
 ghost use Rattle.spec_checkpoint.specs.Salvage.{withCalls, withConnections};
 ghost use Rattle.checkpoint_choice.specs.Sized.{Sized};
 use checkpoint_choice::choosing::is_best;
 use checkpoint_choice::choosing::named_counts;
 use checkpoint_choice::choosing::sound_flags;
-use checkpoint_records::read::call_record;
 use checkpoint_records::read::connection_record;
 use checkpoint_salvage::adding::with_connection;
 use checkpoint_salvage::placing::with_call;
-use table::state::Table;
+use table::layout::Words;
 
-pub fn with_calls(fresh: Table, s: &[u8], calls: usize, connections: usize) -> Table
-    requires { ⌜ Sized (now s) calls connections ⌝ }
-    ensures { λ u. ⌜ u ≡ withCalls fresh (now (s .entry)) calls ⌝ }
+pub fn with_calls(t: &mut Words, s: &[u8], calls: usize, connections: usize)
+    requires { ⌜ Sized (now s) calls connections × (connections < 65536) ⌝ }
+    ensures { λ _. ⌜ tableOf (now (t .exit)) ≡ withCalls (tableOf (now (t .entry))) (now (s .entry)) calls ⌝ }
 {
-    let sound = sound_flags(fresh, s, calls);
+    let sound = sound_flags(t, s, calls);
     let named = named_counts(s, calls, connections);
-    let mut t = fresh;
     let mut i: usize = 0;
     while i < calls {
         let best = is_best(s, &sound, &named, calls, i);
-        t = with_call(t, best, call_record(s, i));
+        with_call(t, best, s, i);
         i += 1;
     }
-    t
 }
 
-pub fn with_connections(start: Table, s: &[u8], calls: usize, connections: usize) -> Table
+pub fn with_connections(t: &mut Words, s: &[u8], calls: usize, connections: usize)
     requires { ⌜ Sized (now s) calls connections ⌝ }
-    ensures { λ u. ⌜ u ≡ withConnections start (now (s .entry)) connections ⌝ }
+    ensures { λ _. ⌜ tableOf (now (t .exit)) ≡ withConnections (tableOf (now (t .entry))) (now (s .entry)) connections ⌝ }
 {
     let base = 4 + 55 * calls;
-    let mut t = start;
     let mut k: usize = 0;
     while k < connections {
-        t = with_connection(t, connection_record(s, base + 18 * k));
+        let x = connection_record(s, base + 18 * k);
+        with_connection(t, x);
         k += 1;
     }
-    t
 }

@@ -1,9 +1,11 @@
-// The records of a checkpoint, each as the table's own types hold it. The caller has tested the checkpoint's size.
+// The records of a checkpoint. The caller has tested the checkpoint's size.
 ghost use mathlib.Core.Path.{_≡_};
 ghost use Prim.Native.Nat.{_+_, _*_, _≤_};
-ghost use lib.ListN.{length, take, drop};
+ghost use lib.ListN.{length};
+ghost use Rattle.table.specs.Words.{callAtWord};
 ghost use Rattle.spec_calls.specs.PathRules.{heldBy};
 ghost use Rattle.spec_checkpoint.specs.Layout.{callRecord, heldAtByte};
+use lists::to_usize;
 use messages::message::Connection;
 use numbers::big_endian::get16;
 use numbers::big_endian::get24;
@@ -12,44 +14,38 @@ use objects::fields::CallId;
 use objects::fields::LspId;
 use objects::fields::Part;
 use objects::fields::TunnelId;
-use spec_checkpoint::record::Slotted;
-use table::state::Call;
-use table::state::no_place;
+use table_words::calls::CallHead;
+use table_words::calls::CallWord;
+use table_words::calls::call_words;
+use table_words::names::name_words;
 
-// All of a name's bytes, those past its length too.
-fn name_at(s: &[u8], at: usize) -> [u8; 32]
-    requires { ⌜ at + 32 ≤ length (now s) ⌝ }
-    ensures { λ r. ⌜ r ≡ take 32 (drop at (now (s .entry))) ⌝ }
+// The slot that a call's record names: any byte.
+pub fn record_slot(s: &[u8], i: usize) -> usize
+    requires { ⌜ 4 + 55 * i + 55 ≤ length (now s) ⌝ }
+    ensures { λ r. ⌜ (r ≡ callRecord (now (s .entry)) i .slot) × (r ≤ 255) ⌝ }
 {
-    let mut name = [0u8; 32];
-    let mut k: usize = 0;
-    while k < 32 {
-        name[k] = s[at + k];
-        k += 1;
-    }
-    name
+    to_usize(s[4 + 55 * i])
 }
 
-pub fn call_record(s: &[u8], i: usize) -> Slotted
+// A call's record as the words of a slot. All of the name's bytes are taken, those past its length too.
+pub fn record_words(s: &[u8], i: usize) -> [u32; 32]
     requires { ⌜ 4 + 55 * i + 55 ≤ length (now s) ⌝ }
-    ensures { λ r. ⌜ r ≡ callRecord (now (s .entry)) i ⌝ }
+    ensures { λ r. ⌜ callAtWord r 0 ≡ callRecord (now (s .entry)) i .call ⌝ }
 {
     let at = 4 + 55 * i;
-    let name = name_at(s, at + 12);
-    let places = [no_place(); 4];
-    let call = Call {
+    let name = name_words(s, at + 12, 32);
+    let mark = to_usize(s[at + 11]);
+    let head = CallHead {
         endpoint: get32(s, at + 3),
         sender: get32(s, at + 7),
         refreshed: get32(s, at + 44),
         epoch: get24(s, at + 48),
         identifier: get32(s, at + 51),
-        id: CallId(get16(s, at + 1)),
-        made: 128 <= s[at + 11],
-        size: s[at + 11] % 128,
-        name,
-        places,
+        id: CallWord(get16(s, at + 1) as u32),
+        made: (mark / 128) as u32,
+        size: (mark % 128) as u32,
     };
-    Slotted { slot: s[at], call }
+    call_words(head, &name)
 }
 
 // A connection's record has no objects of a message: those parts are empty.

@@ -6,16 +6,19 @@ ghost use mathlib.Core.List.{[], _∷_, _++_};
 ghost use Prim.Native.Nat.{_+_, _*_, _≤_, _<_};
 ghost use lib.ListN.{length};
 ghost use Rattle.numbers.specs.BigEndian.{bytes16, bytes24, bytes32};
-ghost use Rattle.lists.specs.Count.{bit};
+ghost use Rattle.table.specs.Total.{total};
+ghost use Rattle.table.specs.Lists.{callAt};
+ghost use Rattle.table.specs.Words.{tableOf};
 ghost use Rattle.spec_checkpoint.specs.Layout.{headBytes, callBytes, connectionBytes};
-ghost use Rattle.checkpoint_records.specs.Put.{Put};
+ghost use Rattle.checkpoint_records.specs.Put.{Put, Writable};
 use numbers::big_endian::put8;
 use numbers::big_endian::put16;
 use numbers::big_endian::put24;
 use numbers::big_endian::put32;
-use objects::fields::Part;
-use reply_objects::writers::put_received;
-use table::state::Call;
+use table::layout::Words;
+use table_words::calls::CallHead;
+use table_words::calls::call_head;
+use table_words::names::name_byte;
 
 // Form 1 above the number of calls, and the number of connections.
 pub fn put_head(out: &mut [u8], calls: u16, connections: u16) -> usize
@@ -27,29 +30,43 @@ pub fn put_head(out: &mut [u8], calls: u16, connections: u16) -> usize
     4
 }
 
-// The mark of a call that the node made, above the length of its name.
-fn marked(made: bool, size: u8) -> u8
-    requires { ⌜ size < 128 ⌝ }
-    ensures { λ r. ⌜ r ≡ bit made * 128 + size ⌝ }
+// The mark of a call that the node made, above the length of its name: a bit and seven.
+fn marked(made: u32, size: u32) -> u8
+    requires { ⌜ (made < 2) × (size < 128) ⌝ }
+    ensures { λ r. ⌜ r ≡ made * 128 + size ⌝ }
 {
-    if made { 128 + size } else { size }
+    (made * 128 + size) as u8
 }
 
-// What a call's record has before the name.
-fn put_before_name(out: &mut [u8], slot: u8, c: Call) -> usize
-    requires { ⌜ (c .size < 128) × (12 ≤ length (now out)) ⌝ }
-    ensures { λ r. ⌜ (r ≡ 12) × Put (slot ∷ bytes16 (c .id .0) ++ bytes32 (c .endpoint) ++ bytes32 (c .sender) ++ ((bit (c .made) * 128 + c .size) ∷ [])) r (now (out .entry)) (now (out .exit)) ⌝ }
+// What a call's record has before the name. Here and below, each number of the call fits its bits: in a table that keeps
+// the rules all do.
+fn put_before_name(out: &mut [u8], slot: u8, c: CallHead) -> usize
+    requires { ⌜ (c .id .0 < 0x10000) × (c .made < 2) × (c .size < 128) × (12 ≤ length (now out)) ⌝ }
+    ensures { λ r. ⌜ (r ≡ 12) × Put (slot ∷ bytes16 (c .id .0) ++ bytes32 (c .endpoint) ++ bytes32 (c .sender) ++ ((c .made * 128 + c .size) ∷ [])) r (now (out .entry)) (now (out .exit)) ⌝ }
 {
     put8(out, 0, slot);
-    put16(out, 1, c.id.0);
+    put16(out, 1, c.id.0 as u16);
     put32(out, 3, c.endpoint);
     put32(out, 7, c.sender);
     put8(out, 11, marked(c.made, c.size));
     12
 }
 
+// All 32 bytes of the name's room.
+fn put_name(out: &mut [u8], t: &Words, i: usize) -> usize
+    requires { ⌜ (i < total) × (32 ≤ length (now out)) ⌝ }
+    ensures { λ r. ⌜ (r ≡ 32) × Put (callAt (tableOf (now (t .entry))) i .name) r (now (out .entry)) (now (out .exit)) ⌝ }
+{
+    let mut k: usize = 0;
+    while k < 32 {
+        out[k] = name_byte(t, i, k);
+        k += 1;
+    }
+    32
+}
+
 // What it has behind the name.
-fn put_behind_name(out: &mut [u8], c: Call) -> usize
+fn put_behind_name(out: &mut [u8], c: CallHead) -> usize
     requires { ⌜ 11 ≤ length (now out) ⌝ }
     ensures { λ r. ⌜ (r ≡ 11) × Put (bytes32 (c .refreshed) ++ bytes24 (c .epoch) ++ bytes32 (c .identifier)) r (now (out .entry)) (now (out .exit)) ⌝ }
 {
@@ -59,14 +76,14 @@ fn put_behind_name(out: &mut [u8], c: Call) -> usize
     11
 }
 
-// A call's record. All 32 bytes of the name's room are written.
-pub fn put_call(out: &mut [u8], slot: u8, c: Call) -> usize
-    requires { ⌜ (c .size < 128) × (55 ≤ length (now out)) ⌝ }
-    ensures { λ r. ⌜ Put (callBytes slot c) r (now (out .entry)) (now (out .exit)) ⌝ }
+// The record of a slot's call.
+pub fn put_call(out: &mut [u8], t: &Words, i: usize) -> usize
+    requires { ⌜ (i < total) × Writable (callAt (tableOf (now t)) i) × (55 ≤ length (now out)) ⌝ }
+    ensures { λ r. ⌜ Put (callBytes i (callAt (tableOf (now (t .entry))) i)) r (now (out .entry)) (now (out .exit)) ⌝ }
 {
-    let name = c.name;
-    let a = put_before_name(out, slot, c);
-    let b = a + put_received(&mut out[a..], &name, Part { at: 0, size: 32 });
+    let c = call_head(t, i);
+    let a = put_before_name(out, i as u8, c);
+    let b = a + put_name(&mut out[a..], t, i);
     b + put_behind_name(&mut out[b..], c)
 }
 

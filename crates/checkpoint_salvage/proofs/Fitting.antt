@@ -6,7 +6,7 @@ use mathlib.Core.Bool.{Bool, true, false, not, _&&_, _||_}
 use lib.Dec.{ltb, eqb}
 use borrow.Author.Tests.{not-true}
 use Rattle.lists.proofs.Tests.{both}
-use Rattle.table.specs.declared.state.Table.{Table}
+use Rattle.table.specs.Table.{Table}
 use Rattle.table.specs.Lists.{roster, Held}
 use Rattle.table.specs.Share.{listed}
 use Rattle.find_connection.specs.declared.under.UnderLook.{UnderLook}

@@ -3,6 +3,7 @@ ghost use mathlib.Core.Path.{_≡_};
 ghost use mathlib.Core.Bool.{cond};
 ghost use Prim.Native.Nat.{_+_};
 ghost use lib.Dec.{ltb};
+ghost use Rattle.table.specs.Words.{tableOf};
 ghost use Rattle.spec_changes.specs.Connections.{added};
 ghost use Rattle.spec_calls.specs.PathRules.{heldBy};
 ghost use Rattle.spec_checkpoint.specs.Salvage.{connectionFits};
@@ -10,10 +11,10 @@ use find_call::share::listing_of;
 use find_connection::standalone::look_standalone;
 use find_connection::under::look_under;
 use messages::message::Connection;
-use table::state::Table;
-use update_connection::standalone::add_standalone;
-use update_connection::standalone::customer_of;
-use update_connection::under::add_under;
+use table::layout::Words;
+use update_connection::add_standalone;
+use update_connection::add_under;
+use update_connection::customer_of;
 
 // Fewer than four, some of them under calls and some of Call ID 0.
 fn has_room(under: usize, standalone: usize) -> bool
@@ -26,8 +27,8 @@ fn has_room(under: usize, standalone: usize) -> bool
 }
 
 // A connection added, where it fits.
-pub fn with_connection(t: Table, x: Connection) -> Table
-    ensures { λ u. ⌜ u ≡ cond (connectionFits t (heldBy x)) (added t (heldBy x)) t ⌝ }
+pub fn with_connection(t: &mut Words, x: Connection)
+    ensures { λ _. ⌜ tableOf (now (t .exit)) ≡ cond (connectionFits (tableOf (now (t .entry))) (heldBy x)) (added (tableOf (now (t .entry))) (heldBy x)) (tableOf (now (t .entry))) ⌝ }
 {
     let m = listing_of(t, x.sender);
     let u = look_under(t, x);
@@ -35,11 +36,12 @@ pub fn with_connection(t: Table, x: Connection) -> Table
     let none = x.call.0 == 0;
     let fits = m.known & !(u.held | l.held) & !(!none & !u.known) & has_room(u.four, l.four);
     if !fits {
-        return t;
+        return;
     }
     if none {
         let k = customer_of(t, x.sender);
-        return add_standalone(t, k, x);
+        add_standalone(t, k, x);
+        return;
     }
     let slot = u.slot;
     add_under(t, slot, x)

@@ -1,62 +1,87 @@
-// One call of a checkpoint: whether it can stand in the table, alone and beside others.
+// One call of a checkpoint: whether it can stand in the table, alone and beside others. The records lie within the
+// checkpoint: its size has been tested.
 ghost use mathlib.Core.Path.{_≡_};
 ghost use mathlib.Core.Bool.{cond, true, _&&_};
-ghost use Prim.Native.Nat.{_<_};
+ghost use Prim.Native.Nat.{_+_, _*_, _≤_, _<_};
+ghost use lib.ListN.{length};
 ghost use Rattle.table.specs.Total.{total};
+ghost use Rattle.table.specs.Rules.{rulesHold};
+ghost use Rattle.table.specs.Words.{tableOf};
+ghost use Rattle.spec_checkpoint.specs.Layout.{callRecord};
 ghost use Rattle.spec_checkpoint.specs.Salvage.{placed, soundAlone, callFits};
-use lists::to_usize;
+use checkpoint_records::read::record_slot;
+use checkpoint_records::read::record_words;
 use rules::rules_hold;
-use spec_checkpoint::record::Slotted;
-use table::state::SLOTS;
-use table::state::Table;
+use table::layout::SLOTS;
+use table::layout::Words;
 use table::word::is_used;
+use table_words::calls::put_slot;
+use table_words::calls::slot_words;
+use table_words::head::occupied;
+use table_words::head::set_occupied;
 use update_call::slots::flip;
-use update_call::slots::with_slot;
 
-// The call in the slot that its record names. A slot is one of the sixty-four.
-fn place(t: Table, r: Slotted) -> Table
-    requires { ⌜ r .slot < total ⌝ }
-    ensures { λ u. ⌜ u ≡ placed t r ⌝ }
+// Record i's call in the slot that it names, one of the table's.
+fn place(t: &mut Words, s: &[u8], i: usize, slot: usize)
+    requires { ⌜ (4 + 55 * i + 55 ≤ length (now s)) × (slot ≡ callRecord (now s) i .slot) × (slot < total) ⌝ }
+    ensures { λ _. ⌜ tableOf (now (t .exit)) ≡ placed (tableOf (now (t .entry))) (callRecord (now (s .entry)) i) ⌝ }
 {
-    let slot = to_usize(r.slot);
-    let c = r.call;
-    with_slot(t, flip(t.occupied, slot), slot, c)
+    let word = flip(occupied(t), slot);
+    let call = record_words(s, i);
+    put_slot(t, slot, &call);
+    set_occupied(t, word)
 }
 
-pub fn sound_alone(fresh: Table, r: Slotted) -> bool
-    ensures { λ b. ⌜ b ≡ soundAlone fresh r ⌝ }
+// Whether the rules hold of the table with the call. It is placed and taken out again: the table is left as it was.
+fn holds_with(t: &mut Words, s: &[u8], i: usize, slot: usize) -> bool
+    requires { ⌜ (4 + 55 * i + 55 ≤ length (now s)) × (slot ≡ callRecord (now s) i .slot) × (slot < total) ⌝ }
+    ensures { λ b. ⌜ (b ≡ rulesHold (placed (tableOf (now (t .entry))) (callRecord (now (s .entry)) i))) × (tableOf (now (t .exit)) ≡ tableOf (now (t .entry))) ⌝ }
 {
-    let inside = to_usize(r.slot) < SLOTS;
+    let word = occupied(t);
+    let call = slot_words(t, slot);
+    place(t, s, i, slot);
+    let holds = rules_hold(t);
+    put_slot(t, slot, &call);
+    set_occupied(t, word);
+    holds
+}
+
+// A record's call could stand in a fresh table by itself.
+pub fn sound_alone(t: &mut Words, s: &[u8], i: usize) -> bool
+    requires { ⌜ 4 + 55 * i + 55 ≤ length (now s) ⌝ }
+    ensures { λ b. ⌜ (b ≡ soundAlone (tableOf (now (t .entry))) (callRecord (now (s .entry)) i)) × (tableOf (now (t .exit)) ≡ tableOf (now (t .entry))) ⌝ }
+{
+    let slot = record_slot(s, i);
+    let inside = slot < SLOTS;
     if !inside {
         return false;
     }
-    rules_hold(place(fresh, r))
+    holds_with(t, s, i, slot)
 }
 
-// A call fits beside those that are in the table.
-fn call_fits(t: Table, r: Slotted) -> bool
-    requires { ⌜ r .slot < total ⌝ }
-    ensures { λ b. ⌜ b ≡ callFits t r ⌝ }
+// It fits beside those that are in the table.
+fn call_fits(t: &mut Words, s: &[u8], i: usize, slot: usize) -> bool
+    requires { ⌜ (4 + 55 * i + 55 ≤ length (now s)) × (slot ≡ callRecord (now s) i .slot) × (slot < total) ⌝ }
+    ensures { λ b. ⌜ (b ≡ callFits (tableOf (now (t .entry))) (callRecord (now (s .entry)) i)) × (tableOf (now (t .exit)) ≡ tableOf (now (t .entry))) ⌝ }
 {
-    let slot = to_usize(r.slot);
-    let used = is_used(t.occupied, slot);
+    let used = is_used(occupied(t), slot);
     if used {
         return false;
     }
-    rules_hold(place(t, r))
+    holds_with(t, s, i, slot)
 }
 
 // A record's call placed, where it is the one kept of its pair and long Call ID (`best`) and fits. Such a record names
 // one of the slots.
-pub fn with_call(t: Table, best: bool, r: Slotted) -> Table
-    requires { ⌜ (best ≡ true → r .slot < total) ⌝ }
-    ensures { λ u. ⌜ u ≡ cond (best && callFits t r) (placed t r) t ⌝ }
+pub fn with_call(t: &mut Words, best: bool, s: &[u8], i: usize)
+    requires { ⌜ (4 + 55 * i + 55 ≤ length (now s)) × (best ≡ true → callRecord (now s) i .slot < total) ⌝ }
+    ensures { λ _. ⌜ tableOf (now (t .exit)) ≡ cond (best && callFits (tableOf (now (t .entry))) (callRecord (now (s .entry)) i)) (placed (tableOf (now (t .entry))) (callRecord (now (s .entry)) i)) (tableOf (now (t .entry))) ⌝ }
 {
     if !best {
-        return t;
+        return;
     }
-    if call_fits(t, r) {
-        return place(t, r);
+    let slot = record_slot(s, i);
+    if call_fits(t, s, i, slot) {
+        place(t, s, i, slot);
     }
-    t
 }

@@ -9,7 +9,7 @@ use lib.ListN.{length, length-append}
 use borrow.Author.Tests.{lt-ltb, le-ltb}
 use Rattle.numbers.specs.Buffer.{atFront}
 use Rattle.lists.specs.Below.{below}
-use Rattle.table.specs.declared.state.Table.{Table}
+use Rattle.table.specs.Table.{Table}
 use Rattle.table.specs.Total.{totalOf}
 use Rattle.table.specs.Lists.{entries, heldAt, standaloneAt, held}
 use Rattle.table.specs.Rules.{rulesHold}

@@ -2,7 +2,6 @@
 -- Assumes nothing.
 use Prim.Native.Nat.{ℕ, zero, suc, _+_, _≤_, _<_}
 use native.Mathlib.Nat.{eq-or-lt-of-le, le-of-suc-le-suc, not-suc-le-zero}
-use native.Mathlib.Numerals.{add-one}
 use native.Mathlib.Omega.{arith}
 use mathlib.Core.Logic.{⊎-elim}
 use mathlib.Core.Path.{_≡_, refl}
@@ -58,7 +57,3 @@ module _ (f : ℕ → List ℕ) where
         let p : Put (below f (i + 1)) (a + r) l (backAt xs a ys) = rw (below-more f i) (more (f i) (w .put) (omega (arith, place-fits i n h)) v) in
         let fits : length (below f (i + 1)) ≤ length l = omega (arith, p .count, within-turn r (v .count)) in
         record { put = p; same = rw (p .is) (front-length (below f (i + 1)) l fits); within = within-turn r (v .count) }
-
-  -- how long one turn makes it
-  pub sized : (i n r : ℕ) → n ≡ length (below f i) → r ≡ length (f i) → n + r ≡ length (below f (i + 1))
-  sized i n r h e = rw add-one (omega (arith, length-more i))

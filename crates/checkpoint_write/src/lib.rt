@@ -4,22 +4,21 @@ ghost use mathlib.Core.Bool.{true};
 ghost use Prim.Native.Nat.{_≤_};
 ghost use lib.ListN.{length};
 ghost use Rattle.table.specs.Rules.{rulesHold};
+ghost use Rattle.table.specs.Words.{tableOf};
 ghost use Rattle.spec_checkpoint.specs.Layout.{checkpointOf};
 ghost use Rattle.spec_checkpoint.specs.Restored.{written};
 ghost use Rattle.checkpoint_records.specs.Put.{Put};
 use crate::connections::put_under_calls;
-use crate::customers::put_with_no_call;
-use crate::slots::calls_size;
+use crate::connections::put_with_no_call;
 use crate::slots::put_calls;
 use checkpoint_records::write::put_head;
 use count_connections::connections_held;
 use rules::rules_hold;
-use table::state::Table;
-use table::word::open_calls;
+use table::layout::Words;
+use table_words::head::open_calls;
 
-pub mod connections;
-pub mod customers;
-pub mod slots;
+mod connections;
+mod slots;
 
 // Answer 0, 1 or 73, and how many bytes the checkpoint has.
 pub struct Written {
@@ -27,15 +26,15 @@ pub struct Written {
     pub length: usize,
 }
 
-fn checkpoint_size(t: Table) -> usize
-    ensures { λ r. ⌜ r ≡ length (checkpointOf t) ⌝ }
+fn checkpoint_size(t: &Words) -> usize
+    ensures { λ r. ⌜ r ≡ length (checkpointOf (tableOf (now (t .entry)))) ⌝ }
 {
-    4 + calls_size(t) + 18 * connections_held(t)
+    4 + 55 * (open_calls(t) as usize) + 18 * connections_held(t)
 }
 
-fn put_checkpoint(out: &mut [u8], t: Table) -> usize
-    requires { ⌜ (rulesHold t ≡ true) × (length (checkpointOf t) ≤ length (now out)) ⌝ }
-    ensures { λ r. ⌜ Put (checkpointOf t) r (now (out .entry)) (now (out .exit)) ⌝ }
+fn put_checkpoint(out: &mut [u8], t: &Words) -> usize
+    requires { ⌜ (rulesHold (tableOf (now t)) ≡ true) × (length (checkpointOf (tableOf (now t))) ≤ length (now out)) ⌝ }
+    ensures { λ r. ⌜ Put (checkpointOf (tableOf (now (t .entry)))) r (now (out .entry)) (now (out .exit)) ⌝ }
 {
     let open = open_calls(t) as u16;
     let held = connections_held(t) as u16;
@@ -45,10 +44,10 @@ fn put_checkpoint(out: &mut [u8], t: Table) -> usize
     c + put_with_no_call(&mut out[c..], t)
 }
 
-// Writes a checkpoint, if it keeps the rules and the buffer has room; the bytes behind the checkpoint keep their
+// Writes a checkpoint, if the table keeps the rules and the buffer has room; the bytes behind the checkpoint keep their
 // content.
-pub fn write_checkpoint(t: Table, out: &mut [u8]) -> Written
-    ensures { λ r. ⌜ (r .answer ≡ written t (now (out .entry)) .answer) × (r .length ≡ written t (now (out .entry)) .length) × (now (out .exit) ≡ written t (now (out .entry)) .buffer) ⌝ }
+pub fn write_checkpoint(t: &Words, out: &mut [u8]) -> Written
+    ensures { λ r. ⌜ (r .answer ≡ written (tableOf (now (t .entry))) (now (out .entry)) .answer) × (r .length ≡ written (tableOf (now (t .entry))) (now (out .entry)) .length) × (now (out .exit) ≡ written (tableOf (now (t .entry))) (now (out .entry)) .buffer) ⌝ }
 {
     if !rules_hold(t) {
         return Written {

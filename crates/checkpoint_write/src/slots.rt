@@ -1,63 +1,41 @@
 // The calls of a checkpoint, in slot order.
 ghost use mathlib.Core.Path.{_≡_};
 ghost use mathlib.Core.Bool.{true};
-ghost use Prim.Native.Nat.{ℕ, _≤_, _<_};
+ghost use Prim.Native.Nat.{_≤_, _<_};
 ghost use lib.ListN.{length};
 ghost use Rattle.table.specs.Total.{total};
+ghost use Rattle.table.specs.Lists.{callAt};
 ghost use Rattle.table.specs.Rules.{rulesHold};
-ghost use Rattle.checkpoint_records.specs.Put.{Put};
+ghost use Rattle.table.specs.Words.{tableOf};
+ghost use Rattle.checkpoint_records.specs.Put.{Put, Writable};
 ghost use Rattle.checkpoint_write.specs.Bytes.{slotBytes, callsBytes};
 use checkpoint_records::write::put_call;
-use table::state::Call;
-use table::state::SLOTS;
-use table::state::Table;
+use table::layout::SLOTS;
+use table::layout::Words;
 use table::word::is_used;
-
-// How many bytes a slot's call has in a checkpoint: the name's, and those of its other fields.
-fn slot_size(used: bool, c: Call) -> usize
-    ensures { λ r. ⌜ ((i : ℕ) → r ≡ length (slotBytes used i c)) × (r ≤ 55) ⌝ }
-{
-    if used {
-        let name = c.name;
-        return 23 + name.len();
-    }
-    0
-}
-
-pub(crate) fn calls_size(t: Table) -> usize
-    ensures { λ r. ⌜ (r ≡ length (callsBytes t)) × (r ≤ 3520) ⌝ }
-{
-    let mut n: usize = 0;
-    let mut i: usize = 0;
-    while i < SLOTS {
-        let c = t.calls[i];
-        n += slot_size(is_used(t.occupied, i), c);
-        i += 1;
-    }
-    n
-}
+use table_words::head::occupied;
 
 // A slot's call, where it is used.
-fn put_slot(out: &mut [u8], used: bool, i: usize, c: Call) -> usize
-    requires { ⌜ (i < total) × (used ≡ true → c .size < 128) × (length (slotBytes used i c) ≤ length (now out)) ⌝ }
-    ensures { λ r. ⌜ Put (slotBytes used i c) r (now (out .entry)) (now (out .exit)) ⌝ }
+fn put_slot(out: &mut [u8], t: &Words, used: bool, i: usize) -> usize
+    requires { ⌜ (i < total) × (used ≡ true → Writable (callAt (tableOf (now t)) i)) × (length (slotBytes used i (callAt (tableOf (now t)) i)) ≤ length (now out)) ⌝ }
+    ensures { λ r. ⌜ Put (slotBytes used i (callAt (tableOf (now (t .entry))) i)) r (now (out .entry)) (now (out .exit)) ⌝ }
 {
     if used {
-        return put_call(out, i as u8, c);
+        return put_call(out, t, i);
     }
     0
 }
 
-// By the table rules no name is longer than its seven bits can say.
-pub(crate) fn put_calls(out: &mut [u8], t: Table) -> usize
-    requires { ⌜ (rulesHold t ≡ true) × (length (callsBytes t) ≤ length (now out)) ⌝ }
-    ensures { λ r. ⌜ Put (callsBytes t) r (now (out .entry)) (now (out .exit)) ⌝ }
+// By the table rules every number of a call fits its bits.
+pub(crate) fn put_calls(out: &mut [u8], t: &Words) -> usize
+    requires { ⌜ (rulesHold (tableOf (now t)) ≡ true) × (length (callsBytes (tableOf (now t))) ≤ length (now out)) ⌝ }
+    ensures { λ r. ⌜ Put (callsBytes (tableOf (now (t .entry)))) r (now (out .entry)) (now (out .exit)) ⌝ }
 {
+    let word = occupied(t);
     let mut at: usize = 0;
     let mut i: usize = 0;
     while i < SLOTS {
-        let c = t.calls[i];
-        at += put_slot(&mut out[at..], is_used(t.occupied, i), i, c);
+        at += put_slot(&mut out[at..], t, is_used(word, i), i);
         i += 1;
     }
     at

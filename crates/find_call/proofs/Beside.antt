@@ -1,31 +1,16 @@
 -- A call beside a request: only a call of the request's pair has its IDs, or connections under its short ID.
 -- Assumes nothing.
-use Prim.Native.Nat.{ℕ, _+_}
 use mathlib.Core.Path.{_≡_, refl, sym}
-use mathlib.Core.List.{List}
-use mathlib.Core.Bool.{Bool, true, false, not, _&&_, _||_, and-assoc, and-true}
+use mathlib.Core.Bool.{Bool, true, false, not, _&&_, and-assoc, and-true}
 use lib.Dec.{eqb}
 use borrow.Author.Tests.{not-true, not-false}
 use Rattle.lists.specs.Count.{has}
-use Rattle.lists.specs.Below.{when, below}
-use Rattle.lists.proofs.Below.{has-none, has-turn}
 use Rattle.lists.proofs.Shown.{has-shown}
 use Rattle.lists.proofs.Tests.{eqb-swap}
-use Rattle.table.specs.declared.state.Call.{Call}
-use Rattle.table.specs.Lists.{Ids, idsOf, underCall, placeAt, heldIn}
+use Rattle.table.specs.Table.{Call}
+use Rattle.table.specs.Lists.{Ids, idsOf, callFour, placeAt, isTaken, connectionAt, heldIn}
 use Rattle.table.specs.Rules.{sameBytes, samePair, sameShort, sameLong}
 use Rattle.spec_changes.specs.Connections.{isUnder}
-
-module _ {ℓ} {A : Type ℓ} (u : ℕ → Bool) (x : ℕ → A) where
-  abbrev places : ℕ → List A
-  places n = below (λ j. when (u j) (x j)) n
-
-  -- one of four places is taken
-  pub four-places : (u 0 || u 1 || u 2 || u 3) ≡ has (λ y. true) (places 4)
-  four-places = turn 3 (turn 2 (turn 1 (turn 0 (sym (has-none _ _)))))
-    where
-      turn : (j : ℕ) {v : Bool} → v ≡ has (λ y. true) (places j) → (v || u j) ≡ has (λ y. true) (places (j + 1))
-      turn j h = has-turn _ _ j _ _ (u j) (x j) refl h (sym (and-true (u j)))
 
 module _ (c : Ids) (d : Call) (used : Bool) where
   abbrev pair : Bool
@@ -35,18 +20,18 @@ module _ (c : Ids) (d : Call) (used : Bool) where
   unfolding sameLong
   long-by-pair = sym (and-assoc used (samePair c (idsOf d)) _)
 
-  short-by-pair : (used && sameShort c (idsOf d)) ≡ (pair && eqb (c .short) (d .id .0))
+  short-by-pair : (used && sameShort c (idsOf d)) ≡ (pair && eqb (c .short) (d .id))
   unfolding sameShort
   short-by-pair = sym (and-assoc used (samePair c (idsOf d)) _)
 
-  busy-by-pair : (used && has (isUnder c) (heldIn d)) ≡ (pair && (eqb (c .short) (d .id .0) && has (λ x. true) (heldIn d)))
+  busy-by-pair : (used && has (isUnder c) (heldIn (callFour d))) ≡ (pair && (eqb (c .short) (d .id) && has (λ x. true) (heldIn (callFour d))))
   busy-by-pair =
-      let s = eqb (c .short) (d .id .0) in
+      let s = eqb (c .short) (d .id) in
       let e = eqb (c .endpoint) (d .endpoint) in
       let f = eqb (c .sender) (d .sender) in
-      rw (has-shown (λ j. placeAt d j .taken) (λ j. underCall d (placeAt d j)) (isUnder c) (λ x. true) (s && e && f) 4 (λ j.
-      rw (eqb-swap (d .id .0) (c .short), eqb-swap (d .endpoint) (c .endpoint), eqb-swap (d .sender) (c .sender)) (sym (and-true (s && e && f)))))
-      (by used s e f (has (λ x. true) (heldIn d)))
+      rw (has-shown (λ j. isTaken (placeAt (callFour d) j)) (connectionAt (callFour d)) (isUnder c) (λ x. true) (s && e && f) 4 (λ j.
+      rw (eqb-swap (d .id) (c .short), eqb-swap (d .endpoint) (c .endpoint), eqb-swap (d .sender) (c .sender)) (sym (and-true (s && e && f)))))
+      (by used s e f (has (λ x. true) (heldIn (callFour d))))
     where
       by : (u a b c m : Bool) → (u && (a && b && c && m)) ≡ (u && (b && c) && (a && m))
       by true true b c m = refl
@@ -57,15 +42,15 @@ module _ (c : Ids) (d : Call) (used : Bool) where
 
   -- a slot of another pair, or a free one
   pub another-pair : not pair ≡ true
-      → (false ≡ (used && sameLong c (idsOf d))) × (false ≡ (used && sameShort c (idsOf d))) × (false ≡ (used && has (isUnder c) (heldIn d)))
+      → (false ≡ (used && sameLong c (idsOf d))) × (false ≡ (used && sameShort c (idsOf d))) × (false ≡ (used && has (isUnder c) (heldIn (callFour d))))
   another-pair h =
       let n = not-true pair h in
       (rw (long-by-pair, n), rw (short-by-pair, n), rw (busy-by-pair, n))
 
-  -- a call of the pair: whether it has the long ID, and connections under it
-  pub the-pair : not pair ≡ false → (l b : Bool) → l ≡ sameBytes (c .long) (idsOf d .long) → b ≡ has (λ x. true) (heldIn d)
-      → (l ≡ (used && sameLong c (idsOf d))) × (eqb (c .short) (d .id .0) ≡ (used && sameShort c (idsOf d)))
-      × ((eqb (c .short) (d .id .0) && b) ≡ (used && has (isUnder c) (heldIn d)))
-  the-pair h l b e f =
+  -- a call of the pair: whether it has the long ID, the short one, and connections under it
+  pub the-pair : not pair ≡ false → (l s b : Bool) → l ≡ sameBytes (c .long) (idsOf d .long) → s ≡ eqb (c .short) (d .id) → b ≡ has (λ x. true) (heldIn (callFour d))
+      → (l ≡ (used && sameLong c (idsOf d))) × (s ≡ (used && sameShort c (idsOf d)))
+      × ((s && b) ≡ (used && has (isUnder c) (heldIn (callFour d))))
+  the-pair h l s b e k f =
       let n = not-false pair h in
-      (rw (long-by-pair, n) e, rw (short-by-pair, n), rw (busy-by-pair, n, f))
+      (rw (long-by-pair, n) e, rw (short-by-pair, n) k, rw (busy-by-pair, n, k, f))

@@ -1,4 +1,5 @@
-pub mod Bytes
 pub mod Beside
+pub mod Padded
+pub mod Named
 pub mod Looked
 pub mod Looks

@@ -7,10 +7,10 @@ use Rattle.lists.specs.Count.{has}
 use Rattle.lists.specs.Below.{below, placeOf}
 use Rattle.lists.proofs.Below.{has-none, has-when, has-turn, has-turns}
 use Rattle.lists.proofs.Search.{place-none, place-turn}
-use Rattle.table.specs.declared.state.Table.{Table}
+use Rattle.table.specs.Table.{Table}
 use Rattle.table.specs.Total.{totalOf}
 use Rattle.table.specs.Word.{isUsed}
-use Rattle.table.specs.Lists.{Ids, Entry, callAt, idsOf, openAt, heldIn, heldAt}
+use Rattle.table.specs.Lists.{Ids, Entry, callAt, idsOf, openAt, callFour, heldIn, heldAt}
 use Rattle.table.specs.Rules.{sameShort, sameLong}
 use Rattle.spec_changes.specs.Calls.{isCall}
 use Rattle.spec_changes.specs.Connections.{isUnder}
@@ -40,7 +40,7 @@ module _ (t : Table) (c : Ids) where
   pub look-turn : (i n m : ℕ) (l s b : Bool) (w : Look) → Looked t c i w
       → l ≡ (isUsed (t .occupied) i && sameLong c (idsOf (callAt t i)))
       → s ≡ (isUsed (t .occupied) i && sameShort c (idsOf (callAt t i)))
-      → b ≡ (isUsed (t .occupied) i && has (isUnder c) (heldIn (callAt t i)))
+      → b ≡ (isUsed (t .occupied) i && has (isUnder c) (heldIn (callFour (callAt t i))))
       → n ≡ cond (s && l) i 0 → m ≡ cond (w .known) (w .slot) n
       → Looked t c (i + 1) (record { known = w .known || s && l; long = w .long || l; short = w .short || s; busy = w .busy || b; slot = m })
   look-turn i n m l s b w h le se be ne me =
@@ -51,7 +51,7 @@ module _ (t : Table) (c : Ids) where
         known = has-turn (openAt t) (isCall c) i (w .known) (s && l) u x refl (h .known) here;
         long = has-turn (openAt t) (λ e. sameLong c (e .ids)) i (w .long) l u x refl (h .long) le;
         short = has-turn (openAt t) (λ e. sameShort c (e .ids)) i (w .short) s u x refl (h .short) se;
-        busy = has-turns (heldAt t) (isUnder c) i (w .busy) b u (heldIn (callAt t i)) refl (h .busy) be;
+        busy = has-turns (heldAt t) (isUnder c) i (w .busy) b u (heldIn (callFour (callAt t i))) refl (h .busy) be;
         slot = rw (me, ne) (place-turn (openAt t) (isCall c) i (w .slot) (w .known) (s && l) (h .known) (h .slot) (here ∙ sym (has-when (isCall c) u x)));
       }
     where

@@ -5,7 +5,7 @@ use mathlib.Core.Path.{_≡_, sym, _∙_}
 use mathlib.Core.Bool.{true}
 use Rattle.lists.specs.Count.{has}
 use Rattle.lists.proofs.Count.{has-true}
-use Rattle.table.specs.declared.state.Table.{Table}
+use Rattle.table.specs.Table.{Table}
 use Rattle.table.specs.Total.{totalOf}
 use Rattle.table.specs.Lists.{Ids, entries, held}
 use Rattle.spec_changes.specs.Calls.{isCall, slotOf}

@@ -1,7 +1,7 @@
 -- What the look-up of a request finds: the tests of open and close, and the call's slot, in the rules' own words.
 use Rattle.lists.specs.Count.{has}
 use Rattle.lists.specs.Below.{below}
-use Rattle.table.specs.declared.state.Table.{Table}
+use Rattle.table.specs.Table.{Table}
 use Rattle.table.specs.Total.{totalOf}
 use Rattle.table.specs.Lists.{Ids, entries, heldAt}
 use Rattle.spec_changes.specs.Calls.{isCall, slotOf}

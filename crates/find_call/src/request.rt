@@ -1,20 +1,32 @@
 // The open calls beside a request.
 ghost use mathlib.Core.Path.{_≡_};
 ghost use mathlib.Core.Bool.{true, _&&_};
+ghost use Prim.Native.Nat.{_<_, _≤_};
+ghost use lib.ListN.{replicate};
 ghost use Rattle.lists.specs.Count.{has};
-ghost use Rattle.objects.specs.Part.{Within};
-ghost use Rattle.table.specs.Lists.{idsOf, heldIn};
-ghost use Rattle.table.specs.Rules.{sameShort, sameLong};
+ghost use Rattle.numbers.specs.Buffer.{atFront};
+ghost use Rattle.objects.specs.Part.{partOf, Within};
+ghost use Rattle.table.specs.Total.{total};
+ghost use Rattle.table.specs.Word.{isUsed};
+ghost use Rattle.table.specs.Lists.{callAt, idsOf, callFour, heldIn};
+ghost use Rattle.table.specs.Rules.{sameShort, sameLong, rulesHold};
+ghost use Rattle.table.specs.Words.{nameAtWord, tableOf};
 ghost use Rattle.spec_changes.specs.Connections.{isUnder};
 ghost use Rattle.spec_calls.specs.CallRules.{idsIn};
 ghost use Rattle.find_call.specs.Looks.{lookOf};
-use crate::names::same_name;
+use fours::has_taken;
 use lists::select;
 use messages::message::CallRequest;
-use table::state::Call;
-use table::state::SLOTS;
-use table::state::Table;
+use table::layout::SLOTS;
+use table::layout::Words;
 use table::word::is_used;
+use table_words::calls::call_head;
+use table_words::calls::is_named;
+use table_words::fours::call_four;
+use table_words::head::occupied;
+use table_words::ids::is_call;
+use table_words::ids::is_size;
+use table_words::names::name_words;
 
 // What the open calls say of a request: both IDs name one call of the pair (`known`, in `slot`); the pair has the long
 // ID, the short ID in use; connections stand under its short ID.
@@ -33,22 +45,13 @@ struct Match {
     busy: bool,
 }
 
-// Connections stand under the call.
-fn has_connections(c: Call) -> bool
-    ensures { λ r. ⌜ r ≡ has (λ x. true) (heldIn c) ⌝ }
+// One slot beside a request. Only the calls of its pair are looked at more closely. Names are compared as the table's
+// words: by the table rules, zeros stand behind a name.
+fn match_slot(used: bool, t: &Words, i: usize, msg: &[u8], q: CallRequest, name: &[u32; 8]) -> Match
+    requires { ⌜ (i < total) × (used ≡ isUsed (tableOf (now t) .occupied) i) × (rulesHold (tableOf (now t)) ≡ true) × Within (now msg) (q .name) × (q .name .size ≤ 32) × (nameAtWord (now name) 0 ≡ atFront (partOf (now msg) (q .name)) (replicate 32 0)) ⌝ }
+    ensures { λ r. ⌜ (r .long ≡ (used && sameLong (idsIn (now (msg .entry)) q) (idsOf (callAt (tableOf (now (t .entry))) i)))) × (r .short ≡ (used && sameShort (idsIn (now (msg .entry)) q) (idsOf (callAt (tableOf (now (t .entry))) i)))) × (r .busy ≡ (used && has (isUnder (idsIn (now (msg .entry)) q)) (heldIn (callFour (callAt (tableOf (now (t .entry))) i))))) ⌝ }
 {
-    let p = c.places[0];
-    let q = c.places[1];
-    let r = c.places[2];
-    let s = c.places[3];
-    p.taken | q.taken | r.taken | s.taken
-}
-
-// One slot beside a request. Only the calls of its pair are looked at more closely.
-fn match_slot(used: bool, c: Call, msg: &[u8], q: CallRequest) -> Match
-    requires { ⌜ Within (now msg) (q .name) ⌝ }
-    ensures { λ r. ⌜ (r .long ≡ (used && sameLong (idsIn (now (msg .entry)) q) (idsOf c))) × (r .short ≡ (used && sameShort (idsIn (now (msg .entry)) q) (idsOf c))) × (r .busy ≡ (used && has (isUnder (idsIn (now (msg .entry)) q)) (heldIn c))) ⌝ }
-{
+    let c = call_head(t, i);
     let pair = used & ((q.endpoint == c.endpoint) & (q.sender == c.sender));
     if !pair {
         return Match {
@@ -57,20 +60,19 @@ fn match_slot(used: bool, c: Call, msg: &[u8], q: CallRequest) -> Match
             busy: false,
         };
     }
-    let short = q.call.0 == c.id.0;
-    let name = q.name;
-    Match {
-        long: same_name(c, msg, name),
-        short,
-        busy: short & has_connections(c),
-    }
+    let short = is_call(q.call, c.id);
+    let busy = short & has_taken(t, call_four(t, i));
+    let long = is_size(q.name.size, c.size) & is_named(t, i, name);
+    Match { long, short, busy }
 }
 
-// The request's name lies within the message: its reading promises that.
-pub fn look_up(t: Table, msg: &[u8], q: CallRequest) -> Look
-    requires { ⌜ Within (now msg) (q .name) ⌝ }
-    ensures { λ r. ⌜ r ≡ lookOf t (idsIn (now (msg .entry)) q) ⌝ }
+// The rules hold, and the request's name lies within the message: its reading promises that.
+pub fn look_up(t: &Words, msg: &[u8], q: CallRequest) -> Look
+    requires { ⌜ (rulesHold (tableOf (now t)) ≡ true) × Within (now msg) (q .name) × (q .name .size ≤ 32) ⌝ }
+    ensures { λ r. ⌜ r ≡ lookOf (tableOf (now (t .entry))) (idsIn (now (msg .entry)) q) ⌝ }
 {
+    let word = occupied(t);
+    let name = name_words(msg, q.name.at, q.name.size);
     let mut known = false;
     let mut long = false;
     let mut short = false;
@@ -78,8 +80,7 @@ pub fn look_up(t: Table, msg: &[u8], q: CallRequest) -> Look
     let mut slot: usize = 0;
     let mut i: usize = 0;
     while i < SLOTS {
-        let c = t.calls[i];
-        let m = match_slot(is_used(t.occupied, i), c, msg, q);
+        let m = match_slot(is_used(word, i), t, i, msg, q, &name);
         let here = m.short & m.long;
         slot = select(known, slot, select(here, i, 0));
         known = known | here;

@@ -3,16 +3,21 @@ ghost use mathlib.Core.Path.{_≡_};
 ghost use Rattle.table.specs.Total.{totalOf};
 ghost use Rattle.table.specs.Lists.{roster, entries};
 ghost use Rattle.table.specs.Share.{listed, guaranteeOf, limitOf, callsOf};
+ghost use Rattle.table.specs.Words.{tableOf};
 ghost use Rattle.spec_calls.specs.CallRules.{shareUsedUp};
 use lists::number_if;
 use lists::one_if;
 use lists::select;
-use lists::to_usize;
 use rule_limits::share_sums;
-use table::state::SLOTS;
-use table::state::TOTAL;
-use table::state::Table;
+use table::layout::CUSTOMERS;
+use table::layout::SLOTS;
+use table::layout::TOTAL;
+use table::layout::Words;
 use table::word::is_used;
+use table_words::calls::call_head;
+use table_words::customers::customer_head;
+use table_words::head::listed;
+use table_words::head::occupied;
 
 // What the roster says of an address: whether it is listed, its guarantee and its limit.
 pub struct Listing {
@@ -21,19 +26,19 @@ pub struct Listing {
     pub limit: usize,
 }
 
-pub fn listing_of(t: Table, address: u32) -> Listing
-    ensures { λ r. ⌜ (r .known ≡ listed (roster t) address) × (r .guarantee ≡ guaranteeOf (roster t) address) × (r .limit ≡ limitOf (roster t) address) ⌝ }
+pub fn listing_of(t: &Words, address: u32) -> Listing
+    ensures { λ r. ⌜ (r .known ≡ listed (roster (tableOf (now (t .entry)))) address) × (r .guarantee ≡ guaranteeOf (roster (tableOf (now (t .entry)))) address) × (r .limit ≡ limitOf (roster (tableOf (now (t .entry)))) address) ⌝ }
 {
-    let n = to_usize(t.listed);
+    let n = listed(t);
     let mut known = false;
     let mut guarantee: usize = 0;
     let mut limit: usize = 0;
     let mut k: usize = 0;
-    while k < 8 {
-        let m = t.customers[k];
+    while k < CUSTOMERS {
+        let m = customer_head(t, k);
         let here = (k < n) & (address == m.address);
-        guarantee = select(known, guarantee, number_if(here, to_usize(m.guarantee)));
-        limit = select(known, limit, number_if(here, to_usize(m.limit)));
+        guarantee = select(known, guarantee, number_if(here, m.guarantee));
+        limit = select(known, limit, number_if(here, m.limit));
         known = known | here;
         k += 1;
     }
@@ -45,22 +50,23 @@ pub fn listing_of(t: Table, address: u32) -> Listing
 }
 
 // A customer's open calls.
-fn calls_of(t: Table, address: u32) -> usize
-    ensures { λ r. ⌜ r ≡ callsOf (entries t) address ⌝ }
+fn calls_of(t: &Words, address: u32) -> usize
+    ensures { λ r. ⌜ r ≡ callsOf (entries (tableOf (now (t .entry)))) address ⌝ }
 {
+    let word = occupied(t);
     let mut n: usize = 0;
     let mut i: usize = 0;
     while i < SLOTS {
-        let c = t.calls[i];
-        n += one_if(is_used(t.occupied, i) & (c.sender == address));
+        let c = call_head(t, i);
+        n += one_if(is_used(word, i) & (c.sender == address));
         i += 1;
     }
     n
 }
 
 // Answer 34: at the limit, or at the guarantee with no room left.
-pub fn share_used_up(t: Table, sender: u32) -> bool
-    ensures { λ r. ⌜ r ≡ shareUsedUp (totalOf t) (roster t) (entries t) sender ⌝ }
+pub fn share_used_up(t: &Words, sender: u32) -> bool
+    ensures { λ r. ⌜ r ≡ shareUsedUp (totalOf (tableOf (now (t .entry)))) (roster (tableOf (now (t .entry)))) (entries (tableOf (now (t .entry)))) sender ⌝ }
 {
     let m = listing_of(t, sender);
     let calls = calls_of(t, sender);

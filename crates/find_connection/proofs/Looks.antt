@@ -9,7 +9,7 @@ use Rattle.lists.specs.Count.{count, has}
 use Rattle.lists.specs.Below.{below, placeOf}
 use Rattle.lists.proofs.Count.{has-true, has-append, count-append}
 use Rattle.lists.proofs.Search.{place-found}
-use Rattle.table.specs.declared.state.Table.{Table}
+use Rattle.table.specs.Table.{Table}
 use Rattle.table.specs.Total.{totalOf}
 use Rattle.table.specs.Lists.{entries, Held, heldAt, standaloneAt, held}
 use Rattle.table.specs.Rules.{sameLsp}

@@ -13,7 +13,7 @@ use Rattle.table.specs.Lists.{Held}
 use Rattle.table.specs.Rules.{sameLsp}
 use Rattle.spec_changes.specs.Connections.{sameFour}
 use Rattle.spec_calls.specs.PathRules.{underOther}
-use Rattle.find_connection.proofs.Match.{Matched}
+use Rattle.find_connection.specs.Looks.{Matched}
 
 module _ {A : Type 0} (f : ℕ → List A) (p : A → Bool) where
   -- whether the first n places have one that passes, and the first of them that has

@@ -1,8 +1,12 @@
 -- What the look-up of a connection finds: the tests of Path and PathTear, and where the connection and its call stand,
 -- in the rules' own words.
+use Prim.Native.Nat.{ℕ, _≤_}
+use mathlib.Core.Path.{_≡_}
+use mathlib.Core.List.{List}
+use mathlib.Core.Bool.{Bool, cond, _&&_}
 use Rattle.lists.specs.Count.{count, has}
 use Rattle.lists.specs.Below.{below, placeOf}
-use Rattle.table.specs.declared.state.Table.{Table}
+use Rattle.table.specs.Table.{Table}
 use Rattle.table.specs.Total.{totalOf}
 use Rattle.table.specs.Lists.{entries, Held, heldAt, standaloneAt}
 use Rattle.table.specs.Rules.{sameLsp}
@@ -11,6 +15,12 @@ use Rattle.spec_changes.specs.Connections.{sameFour, isCallOf}
 use Rattle.spec_calls.specs.PathRules.{underOther}
 use Rattle.find_connection.specs.declared.under.UnderLook.{UnderLook}
 use Rattle.find_connection.specs.declared.standalone.StandaloneLook.{StandaloneLook}
+
+-- what one list says of a connection, where it counts: whether it has it under another Call ID, whether it has it, how
+-- many of its four it has
+abbrev pub Matched : Bool → Held → List Held → Bool → Bool → ℕ → Type 0
+Matched used x l other held four =
+    (other ≡ (used && has (underOther x) l)) × (held ≡ (used && has (sameLsp x) l)) × (four ≡ cond used (count (sameFour x) l) 0) × (four ≤ 4)
 
 unfoldable pub underLookOf : Table → Held → UnderLook
 underLookOf t x = record {

@@ -12,12 +12,17 @@ use messages::read::read;
 use objects::fault::Fault;
 use objects::fault::number;
 use objects::fields::Part;
-use rosters::RosterRead;
 use rosters::read_roster;
 use rules::rules_hold;
 use table::answer::roster_number;
-use table::state::Customer;
-use table::state::Table;
+use table::layout::WORDS;
+use table::layout::Words;
+use table_words::customers::CustomerHead;
+use table_words::customers::customer_head;
+use table_words::head::address;
+use table_words::head::epoch;
+use table_words::head::listed;
+use table_words::head::next;
 
 fn print_word(word: &[u8]) {
     io::write_all(STDOUT_FILENO, word);
@@ -150,19 +155,18 @@ fn decode(text: &[u8], from: usize, end: usize, out: &mut [u8]) -> usize
     i
 }
 
-fn print_customer(c: Customer) {
+fn print_customer(c: CustomerHead) {
     print_address(b" customer ", c.address);
-    print_number(b" ", c.guarantee as u32);
-    print_number(b" ", c.limit as u32);
+    print_count(b" ", c.guarantee);
+    print_count(b" ", c.limit);
 }
 
-fn print_customers(t: Table) {
-    let listed = t.listed as usize;
+fn print_customers(t: &Words) {
+    let count = listed(t);
     let mut k: usize = 0;
     while k < 8 {
-        let c = t.customers[k];
-        if k < listed {
-            print_customer(c);
+        if k < count {
+            print_customer(customer_head(t, k));
         }
         k += 1;
     }
@@ -178,19 +182,19 @@ fn print_rules(holds: bool) {
 
 // What stands in a roster's table: own address and epoch, the next own identifier, the customers with
 // guarantee and limit, and whether the table keeps the rules.
-fn print_table(t: Table) {
-    print_address(b" own ", t.address);
-    print_number(b" epoch ", t.epoch);
-    print_number(b" next ", t.next);
+fn print_table(t: &Words) {
+    print_address(b" own ", address(t));
+    print_number(b" epoch ", epoch(t));
+    print_number(b" next ", next(t));
     print_customers(t);
     print_rules(rules_hold(t));
 }
 
-fn print_roster(r: RosterRead) {
-    let answer = r.answer;
-    let table = r.table;
+fn print_roster(s: &[u8]) {
+    let mut t: Words = [0; WORDS];
+    let answer = read_roster(&mut t, s);
     print_number(b" roster ", roster_number(answer) as u32);
-    print_table(table);
+    print_table(&t);
 }
 
 fn read_word(text: &[u8], from: usize, end: usize, roster: bool)
@@ -203,7 +207,7 @@ fn read_word(text: &[u8], from: usize, end: usize, roster: bool)
         return;
     }
     if roster {
-        print_roster(read_roster(&bytes[..n]));
+        print_roster(&bytes[..n]);
     } else {
         print_reading(read(&bytes[..n]));
     }

@@ -1,13 +1,14 @@
 -- What a message that was read promises of its parts: they lie within the message, with the sizes that a reply relies
--- on.
+-- on; and of its IDs: they have sixteen bits.
 -- Assumes nothing.
-use Prim.Native.Nat.{ℕ, _≤_, _<_}
+use Prim.Native.Nat.{ℕ, _+_, _≤_, _<_}
 use native.Mathlib.Omega.{arith}
 use mathlib.Core.Path.{_≡_, refl, subst}
 use mathlib.Core.List.{List}
 use mathlib.Core.Bool.{Bool, true, false, cond, not, _||_}
 use lib.Dec.{ltb, eqb}
 use borrow.Author.Tests.{eqb-false, ltb-false, not-false}
+use Rattle.numbers.proofs.BigEndian.{be16-bound}
 use Rattle.objects.specs.Forms.{nameLength}
 use Rattle.objects.specs.Placed.{Placed}
 use Rattle.objects.specs.Walk.{walkOf}
@@ -86,6 +87,7 @@ module _ (s : List ℕ) where
         nameSome = k .1;
         nameMost = k .2;
         callSome = k .0;
+        callFits = be16-bound s (v .session .at + 8);
       }
 
   notify : (v : Objects) → Placed s v → Promised s (notifyOf s v)
@@ -100,7 +102,14 @@ module _ (s : List ℕ) where
   unfolding connectionAt
   connection v g e =
       let b = path-bounds s v e g in
-      record { session = b .0; template = b .1; sessionSize = refl; templateSize = refl }
+      record {
+        session = b .0;
+        template = b .1;
+        sessionSize = refl;
+        templateSize = refl;
+        tunnelFits = be16-bound s (v .session .at + 10);
+        lspFits = be16-bound s (v .template .at + 10);
+      }
 
   path : (v : Objects) (adds : Bool) → Placed s v → Promised s (pathOf s v adds)
   unfolding pathOf

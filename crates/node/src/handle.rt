@@ -7,6 +7,7 @@ ghost use Rattle.messages.specs.Inside.{Inside};
 ghost use Rattle.table.specs.Lists.{roster};
 ghost use Rattle.table.specs.Share.{listed};
 ghost use Rattle.table.specs.Rules.{rulesHold};
+ghost use Rattle.table.specs.Words.{tableOf};
 ghost use Rattle.spec_calls.specs.Form.{senderOf};
 ghost use Rattle.spec_calls.specs.Handling.{handled};
 ghost use Rattle.outcomes.specs.Outcomes.{handedBack, ruled};
@@ -22,7 +23,7 @@ use messages::read::read;
 use outcomes::outcome::Outcome;
 use outcomes::outcome::unanswered;
 use rules::rules_hold;
-use table::state::Table;
+use table::layout::Words;
 
 fn sender_of(m: Message) -> u32
     ensures { λ r. ⌜ r ≡ senderOf m ⌝ }
@@ -36,9 +37,9 @@ fn sender_of(m: Message) -> u32
 }
 
 // A message of no fault, by its kind.
-fn handle_message(t: Table, msg: &[u8], m: Message, reply: &mut [u8]) -> Outcome
-    requires { ⌜ (rulesHold t ≡ true) × (listed (roster t) (senderOf m) ≡ true) × Inside (now msg) m × (128 ≤ length (now reply)) ⌝ }
-    ensures { λ r. ⌜ handedBack r (now (reply .exit)) ≡ ruled t (now (msg .entry)) (now (reply .entry)) m ⌝ }
+fn handle_message(t: &mut Words, msg: &[u8], m: Message, reply: &mut [u8]) -> Outcome
+    requires { ⌜ (rulesHold (tableOf (now t)) ≡ true) × (listed (roster (tableOf (now t))) (senderOf m) ≡ true) × Inside (now msg) m × (128 ≤ length (now reply)) ⌝ }
+    ensures { λ r. ⌜ handedBack r (tableOf (now (t .exit))) (now (reply .exit)) ≡ ruled (tableOf (now (t .entry))) (now (msg .entry)) (now (reply .entry)) m ⌝ }
 {
     match m {
         Message::Open(q) => open_call(t, msg, q, reply),
@@ -49,12 +50,12 @@ fn handle_message(t: Table, msg: &[u8], m: Message, reply: &mut [u8]) -> Outcome
 }
 
 // The tests from 2 on: for a table that keeps the rules, as a Bundle's messages will find it.
-fn handle_checked(t: Table, msg: &[u8], reply: &mut [u8]) -> Outcome
-    requires { ⌜ rulesHold t ≡ true ⌝ }
-    ensures { λ r. ⌜ handedBack r (now (reply .exit)) ≡ handled t (now (msg .entry)) (now (reply .entry)) ⌝ }
+fn handle_checked(t: &mut Words, msg: &[u8], reply: &mut [u8]) -> Outcome
+    requires { ⌜ rulesHold (tableOf (now t)) ≡ true ⌝ }
+    ensures { λ r. ⌜ handedBack r (tableOf (now (t .exit))) (now (reply .exit)) ≡ handled (tableOf (now (t .entry))) (now (msg .entry)) (now (reply .entry)) ⌝ }
 {
     if reply.len() < 128 {
-        return unanswered(t, Answer::BufferTooSmall);
+        return unanswered(Answer::BufferTooSmall);
     }
     let x = read(msg);
     match x {
@@ -62,7 +63,7 @@ fn handle_checked(t: Table, msg: &[u8], reply: &mut [u8]) -> Outcome
             fault,
             offset,
             headers,
-        } => unanswered(t, Answer::Malformed(fault)),
+        } => unanswered(Answer::Malformed(fault)),
         Reading::Unfit {
             fault,
             sender,
@@ -70,26 +71,26 @@ fn handle_checked(t: Table, msg: &[u8], reply: &mut [u8]) -> Outcome
         } => {
             let known = listing_of(t, sender);
             if known.known {
-                return unanswered(t, Answer::Malformed(fault));
+                return unanswered(Answer::Malformed(fault));
             }
-            unanswered(t, Answer::SenderNotListed)
+            unanswered(Answer::SenderNotListed)
         }
         Reading::Read { message, headers } => {
             let known = listing_of(t, sender_of(message));
             if known.known {
                 return handle_message(t, msg, message, reply);
             }
-            unanswered(t, Answer::SenderNotListed)
+            unanswered(Answer::SenderNotListed)
         }
     }
 }
 
 // Handles a message: any table, any bytes, any buffer.
-pub fn handle(t: Table, msg: &[u8], reply: &mut [u8]) -> Outcome
-    ensures { λ r. ⌜ handedBack r (now (reply .exit)) ≡ handled t (now (msg .entry)) (now (reply .entry)) ⌝ }
+pub fn handle(t: &mut Words, msg: &[u8], reply: &mut [u8]) -> Outcome
+    ensures { λ r. ⌜ handedBack r (tableOf (now (t .exit))) (now (reply .exit)) ≡ handled (tableOf (now (t .entry))) (now (msg .entry)) (now (reply .entry)) ⌝ }
 {
     if rules_hold(t) {
         return handle_checked(t, msg, reply);
     }
-    unanswered(t, Answer::TableBroken)
+    unanswered(Answer::TableBroken)
 }

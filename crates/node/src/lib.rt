@@ -1,2 +1,2 @@
-// The node's call side: one message is answered, with the table handed in by value and a reply buffer lent.
+// The node's call side: one message is answered, in a table and a reply buffer that the caller lends.
 pub mod handle;

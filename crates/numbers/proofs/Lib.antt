@@ -1,2 +1,3 @@
+pub mod BigEndian
 pub mod Buffer
 pub mod Exchange

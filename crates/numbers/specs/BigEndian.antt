@@ -1,7 +1,11 @@
 -- Numbers in a list of bytes, most significant byte first (01, first paragraph).
-use Prim.Native.Nat.{ℕ, _+_, _*_, _/_, _%_}
+use Prim.Native.Nat.{ℕ, _+_, _*_, _/_, _%_, _<_}
 use mathlib.Core.List.{List, [], _∷_}
 use lib.ListN.{getD}
+
+-- a byte string: every number is below 256
+abbrev pub Bytes : List ℕ → Type 0
+Bytes s = (k : ℕ) → getD s k 0 < 256
 
 -- the number of 16, 24 or 32 bits whose first byte stands at a place
 abbrev pub be16At : List ℕ → ℕ → ℕ

@@ -12,7 +12,7 @@ use Rattle.messages.specs.declared.message.Message.{Message}
 use Rattle.messages.specs.declared.message.Message.the-variants.{Open, Close, Add, Drop}
 use Rattle.messages.specs.declared.read.Reading.the-variants.{Refused, Unfit, Read}
 use Rattle.messages.specs.Read.{readOf}
-use Rattle.table.specs.declared.state.Table.{Table}
+use Rattle.table.specs.Table.{Table}
 use Rattle.table.specs.Lists.{Terms, roster}
 use Rattle.table.specs.Share.{listed}
 use Rattle.table.specs.Rules.{rulesHold}

@@ -6,7 +6,7 @@ use mathlib.Core.List.{List}
 use lib.ListN.{length}
 use Rattle.numbers.specs.Buffer.{atFront}
 use Rattle.messages.specs.declared.message.Message.{Message}
-use Rattle.table.specs.declared.state.Table.{Table}
+use Rattle.table.specs.Table.{Table}
 use Rattle.answers.specs.declared.answer.Answer.{Answer}
 use Rattle.spec_calls.specs.Handling.{ruleAnswer, changedBy, identified, replyTo, Handled}
 use Rattle.outcomes.specs.Outcomes.{ruled}

@@ -5,14 +5,14 @@ use mathlib.Core.List.{List}
 use lib.ListN.{length}
 use Rattle.numbers.specs.Buffer.{atFront}
 use Rattle.messages.specs.declared.message.Message.{Message}
-use Rattle.table.specs.declared.state.Table.{Table}
+use Rattle.table.specs.Table.{Table}
 use Rattle.answers.specs.declared.answer.Answer.{Answer}
 use Rattle.spec_calls.specs.Handling.{ruleAnswer, changedBy, identified, replyTo, Handled}
 use Rattle.outcomes.specs.declared.outcome.Outcome.{Outcome}
 
--- answer, length and table as the code returns them, and the buffer as it leaves it
-abbrev pub handedBack : Outcome → List ℕ → Handled
-handedBack r buffer = record { answer = r .answer; length = r .length; table = r .table; buffer = buffer }
+-- answer and length as the code returns them, and table and buffer as it leaves them
+abbrev pub handedBack : Outcome → Table → List ℕ → Handled
+handedBack r table buffer = record { answer = r .answer; length = r .length; table = table; buffer = buffer }
 
 -- an answer that sends nothing and changes nothing
 abbrev pub left : Table → List ℕ → Answer → Handled

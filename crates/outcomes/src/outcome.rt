@@ -1,22 +1,19 @@
-// What handling a message gives back.
+// What handling a message gives back, beside the table and the reply buffer that it was lent.
 ghost use mathlib.Core.Path.{_≡_};
 use answers::answer::Answer;
-use table::state::Table;
 
-// The answer, the reply's length, 0 where none is sent, and the table afterwards.
+// The answer, and the reply's length, 0 where none is sent.
 pub struct Outcome {
     pub answer: Answer,
     pub length: usize,
-    pub table: Table,
 }
 
-// An answer that sends nothing and changes nothing.
-pub fn unanswered(t: Table, a: Answer) -> Outcome
-    ensures { λ r. ⌜ r ≡ record { answer = a; length = 0; table = t } ⌝ }
+// An answer that sends nothing.
+pub fn unanswered(a: Answer) -> Outcome
+    ensures { λ r. ⌜ r ≡ record { answer = a; length = 0 } ⌝ }
 {
     Outcome {
         answer: a,
         length: 0,
-        table: t,
     }
 }

@@ -100,7 +100,7 @@ pub fn put_admin_status(out: &mut [u8], bits: u32) -> usize
 }
 
 // A part of a message as it stands there: SESSION, SESSION_ATTRIBUTE or SENDER_TEMPLATE as received, reserved bits and
-// padding included. A checkpoint writes a stored name by it.
+// padding included.
 pub fn put_received(out: &mut [u8], msg: &[u8], p: Part) -> usize
     requires { ⌜ (Within (now msg) p) × (p .size ≤ length (now out)) ⌝ }
     ensures { λ r. ⌜ (r ≡ p .size) × (now (out .exit) ≡ atFront (partOf (now (msg .entry)) p) (now (out .entry))) ⌝ }

@@ -2,7 +2,9 @@
 // salvage), the roster, the copy. It prints the roster's answer, the copy's with how many records were dropped, and
 // what the table then holds. A cut frame prints `cut` and ends it.
 ghost use mathlib.Core.Path.{_≡_};
-ghost use Prim.Native.Nat.{_≤_, min};
+ghost use Prim.Native.Nat.{_≤_, _<_, min};
+ghost use Rattle.table.specs.Total.{total};
+ghost use Rattle.table_words.specs.Fours.{Inside};
 use checkpoint_read::read_checkpoint;
 use libc::STDIN_FILENO;
 use libc::STDOUT_FILENO;
@@ -10,12 +12,22 @@ use lists::to_usize;
 use numbers::big_endian::get32;
 use rosters::read_roster;
 use table::answer::roster_number;
-use table::state::Call;
-use table::state::Customer;
-use table::state::SLOTS;
-use table::state::Table;
-use table::state::name_size;
+use table::layout::CUSTOMERS;
+use table::layout::SLOTS;
+use table::layout::WORDS;
+use table::layout::Words;
 use table::word::is_used;
+use table_words::calls::CallWord;
+use table_words::calls::call_head;
+use table_words::fours::FourPlace;
+use table_words::fours::PlaceWords;
+use table_words::fours::call_four;
+use table_words::fours::customer_four;
+use table_words::fours::endpoint_at;
+use table_words::fours::place_words;
+use table_words::head::occupied;
+use table_words::names::name_byte;
+use table_words::names::name_size;
 
 enum Frame {
     Cut,
@@ -78,99 +90,89 @@ fn print_address(a: u32) {
     io::print_decimal(STDOUT_FILENO, (a % 256) as u64);
 }
 
-fn print_call(slot: usize, c: Call) {
+fn print_name(t: &Words, i: usize, size: u32)
+    requires { ⌜ i < total ⌝ }
+{
+    let n = name_size(size);
+    let mut k: usize = 0;
+    while k < n {
+        io::print_hex(STDOUT_FILENO, to_usize(name_byte(t, i, k)) as u64, 2);
+        k += 1;
+    }
+}
+
+fn print_call(t: &Words, i: usize)
+    requires { ⌜ i < total ⌝ }
+{
+    let c = call_head(t, i);
     print_text(b"call");
-    print_number(slot as u64);
+    print_number(i as u64);
     print_address(c.endpoint);
     print_address(c.sender);
     print_number(c.id.0 as u64);
     print_text(b" ");
-    let n = name_size(c.size);
-    let mut k: usize = 0;
-    while k < n {
-        io::print_hex(STDOUT_FILENO, to_usize(c.name[k]) as u64, 2);
-        k += 1;
-    }
+    print_name(t, i, c.size);
     print_text(b"\n");
 }
 
-fn print_connection(endpoint: u32, short: u16, tunnel: u16, extended: u32, sender: u32, lsp: u16) {
+fn print_connection(call: CallWord, sender: u32, endpoint: u32, p: PlaceWords) {
     print_text(b"connection");
     print_address(endpoint);
-    print_number(short as u64);
-    print_number(tunnel as u64);
-    print_number(extended as u64);
+    print_number(call.0 as u64);
+    print_number(p.tunnel.0 as u64);
+    print_number(p.extended as u64);
     print_address(sender);
-    print_number(lsp as u64);
+    print_number(p.lsp.0 as u64);
     print_text(b"\n");
 }
 
-fn print_under(c: Call) {
+fn print_four(t: &Words, f: FourPlace)
+    requires { ⌜ Inside f ⌝ }
+{
     let mut j: usize = 0;
     while j < 4 {
-        let p = c.places[j];
-        if p.taken {
-            print_connection(
-                c.endpoint,
-                c.id.0,
-                p.tunnel.0,
-                p.extended,
-                c.sender,
-                p.lsp.0,
-            );
-        }
-        j += 1;
-    }
-}
-
-fn print_standalone(m: Customer) {
-    let mut j: usize = 0;
-    while j < 4 {
-        let p = m.places[j];
-        if p.taken {
-            print_connection(p.endpoint, 0, p.tunnel.0, p.extended, m.address, p.lsp.0);
+        let p = place_words(t, f, j);
+        if p.taken == 1 {
+            print_connection(f.call, f.sender, endpoint_at(t, f, j), p);
         }
         j += 1;
     }
 }
 
 // Calls in slot order, connections in the order of a copy. Free slots and unused records hold no connections.
-fn print_table(t: Table) {
+fn print_table(t: &Words) {
+    let word = occupied(t);
     let mut i: usize = 0;
     while i < SLOTS {
-        let c = t.calls[i];
-        if is_used(t.occupied, i) {
-            print_call(i, c);
+        if is_used(word, i) {
+            print_call(t, i);
         }
         i += 1;
     }
     let mut m: usize = 0;
     while m < SLOTS {
-        let c = t.calls[m];
-        print_under(c);
+        print_four(t, call_four(t, m));
         m += 1;
     }
     let mut k: usize = 0;
-    while k < 8 {
-        let c = t.customers[k];
-        print_standalone(c);
+    while k < CUSTOMERS {
+        print_four(t, customer_four(t, k));
         k += 1;
     }
 }
 
 fn read_table(salvage: bool, roster: &[u8], copy: &[u8]) {
-    let first = read_roster(roster);
-    let answer = first.answer;
+    let mut t: Words = [0; WORDS];
+    let answer = read_roster(&mut t, roster);
     print_text(b"roster");
     print_number(roster_number(answer) as u64);
     print_text(b"\ncopy");
-    let r = read_checkpoint(salvage, roster, copy);
-    let table = r.table;
+    let r = read_checkpoint(&mut t, salvage, roster, copy);
     print_number(r.answer as u64);
     print_number(r.calls as u64);
     print_number(r.connections as u64);
     print_text(b"\n");
-    print_table(table);
+    print_table(&t);
 }
 
 // Salvage is asked for by a mode byte of 1.

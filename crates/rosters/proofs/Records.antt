@@ -3,29 +3,46 @@
 use Prim.Native.Nat.{ℕ, suc, _+_, _-_, _*_, _/_, _%_, _≤_, _<_}
 use native.Mathlib.Nat.{eq-or-lt-of-le}
 use native.Mathlib.Omega.{arith}
-use mathlib.Core.Path.{_≡_, refl, sym}
+use mathlib.Core.Path.{_≡_, refl, sym, _∙_}
 use mathlib.Core.Logic.{⊎-elim}
 use mathlib.Core.List.{List, [], _∷_}
 use mathlib.Core.Bool.{Bool, true, false, cond}
 use lib.Dec.{ltb}
 use lib.ListN.{set, replicate}
 use borrow.Author.Tests.{eq-eqb, ne-eqb, ltb-true, ltb-false, lt-ltb, le-ltb}
-use Rattle.numbers.specs.BigEndian.{be16At, be32At}
+use Rattle.numbers.specs.BigEndian.{be16At, be24At, be32At}
 use Rattle.lists.specs.Count.{has}
 use Rattle.lists.specs.Below.{when, below}
-use Rattle.lists.proofs.Below.{set-each, sum-turn}
+use Rattle.lists.proofs.Below.{set-each, getD-each, sum-turn}
+use Rattle.table.specs.declared.answer.RosterAnswer.{RosterAnswer}
 use Rattle.table.specs.declared.answer.RosterAnswer.the-variants.{Accepted, SpareBits, Share, Repeated, Guarantees}
-use Rattle.table.specs.declared.state.Customer.{Customer}
-use Rattle.table.specs.Zeros.{noCustomer}
+use Rattle.table.specs.Table.{Customer, Table}
+use Rattle.table.specs.Total.{total}
+use Rattle.table.specs.Zeros.{noCall, noCustomer, emptyTable, pastCustomer}
+use Rattle.table.specs.Lists.{customerAt}
 use Rattle.table.specs.Share.{isAt}
 use Rattle.table.specs.Rules.{badShare, guarantees}
-use Rattle.table.specs.Roster.{termsIn, recordsIn, recordsAnswer, customerIn, customersFrom}
+use Rattle.table.specs.Stores.{withTerms, withRoster}
+use Rattle.table.specs.Roster.{customersIn, termsIn, recordsIn, recordsAnswer, customerIn, customersFrom, freshTable, rosterNumber, tableFor}
+use Rattle.rosters.specs.Taken.{withRecord}
 
 -- ---- the customers
 
-pub no-customers : (s : List ℕ) → replicate 8 noCustomer ≡ customersFrom s 0
-unfolding customersFrom below
-no-customers s = refl
+-- the empty table with the first k records in
+abbrev pub taking : List ℕ → ℕ → Table
+taking s k = record {
+  address = 0;
+  epoch = 0;
+  next = 1;
+  listed = 0;
+  occupied = 0;
+  customers = customersFrom s k;
+  calls = replicate total noCall;
+}
+
+pub taking-none : (s : List ℕ) → emptyTable ≡ taking s 0
+unfolding emptyTable customersFrom below
+taking-none s = refl
 
 -- what stands in place k where n records are in
 abbrev placed : List ℕ → ℕ → ℕ → Customer
@@ -38,9 +55,26 @@ other-places s k i n = go (ltb i k) refl
     go true e = rw (e, lt-ltb i (k + 1) (omega (arith, ltb-true i k e)))
     go false e = rw (e, le-ltb i (k + 1) (⊎-elim (λ (q : k ≡ i). absurd (n (sym q))) (λ (q : k < i). omega arith) (eq-or-lt-of-le (ltb-false i k e))))
 
-pub one-more-customer : (s : List ℕ) (k : ℕ) → k < 8 → set (customersFrom s k) k (customerIn s k) ≡ customersFrom s (k + 1)
+one-more-customer : (s : List ℕ) (k : ℕ) → k < 8 → set (customersFrom s k) k (customerIn s k) ≡ customersFrom s (k + 1)
 unfolding customersFrom
 one-more-customer s k h = rw (lt-ltb k (k + 1) (omega arith)) at (set-each (placed s k) (placed s (k + 1)) 8 k h (other-places s k))
+
+-- the next record is unused
+next-unused : (s : List ℕ) (k : ℕ) → k < 8 → customerAt (taking s k) k ≡ noCustomer
+unfolding customersFrom
+next-unused s k h = getD-each (placed s k) 8 k pastCustomer h ∙ rw (le-ltb k k (omega arith))
+
+terms-in : (s : List ℕ) (k : ℕ) → withTerms noCustomer (termsIn s k .address) (termsIn s k .guarantee) (termsIn s k .limit) ≡ customerIn s k
+unfolding noCustomer
+terms-in s k = refl
+
+pub taking-turn : (t : Table) (s : List ℕ) (k : ℕ) → k < 8 → t ≡ taking s k → withRecord t s k ≡ taking s (k + 1)
+taking-turn t s k h e = rw (e, next-unused s k h, terms-in s k, one-more-customer s k h)
+
+pub taking-all : (t : Table) (s : List ℕ) (address epoch n : ℕ) → t ≡ taking s n → address ≡ be32At s 1 → epoch ≡ be24At s 5 → n ≡ customersIn s
+    → withRoster t address epoch n ≡ freshTable s
+unfolding freshTable
+taking-all t s address epoch n e a p q = rw (e, a, p, q)
 
 -- ---- the guarantees
 
@@ -73,3 +107,14 @@ module _ (s : List ℕ) (k n : ℕ) where
   pub summed : (sum : ℕ) → n ≤ k → sum ≡ guarantees (recordsIn s k) → recordsAnswer s k (n - k) ≡ cond (ltb 64 sum) Guarantees Accepted
   unfolding recordsAnswer
   summed sum h e = let z : n - k ≡ 0 = omega arith in rw (z, e)
+
+-- ---- the table that goes with an answer
+
+module _ (s : List ℕ) (t : Table) (a : RosterAnswer) where
+  pub table-fresh : rosterNumber a ≡ 0 → t ≡ freshTable s → t ≡ tableFor a s
+  unfolding tableFor
+  table-fresh n e = rw (eq-eqb (rosterNumber a) 0 n) e
+
+  pub table-empty : (rosterNumber a ≡ 0 → ⊥) → t ≡ emptyTable → t ≡ tableFor a s
+  unfolding tableFor
+  table-empty n e = rw (ne-eqb (rosterNumber a) 0 n) e

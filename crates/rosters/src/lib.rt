@@ -1,4 +1,4 @@
-// Reads a roster: any bytes get an answer and a table.
+// Reads a roster: any bytes get an answer, and the lent table becomes the one that goes with it.
 ghost use mathlib.Core.Path.{_≡_};
 ghost use Prim.Native.Nat.{_+_, _*_, _≤_, _<_};
 ghost use lib.ListN.{length};
@@ -7,33 +7,19 @@ ghost use Rattle.table.specs.Total.{total};
 ghost use Rattle.table.specs.Zeros.{emptyTable};
 ghost use Rattle.table.specs.Share.{isAt};
 ghost use Rattle.table.specs.Rules.{badShare};
-ghost use Rattle.table.specs.Roster.{customersIn, customerIn, recordsIn, recordsAnswer, rosterAnswer, customersFrom, freshTable, tableFor};
+ghost use Rattle.table.specs.Roster.{customersIn, recordsIn, recordsAnswer, rosterAnswer, freshTable, tableFor};
+ghost use Rattle.table.specs.Words.{tableOf};
+ghost use Rattle.rosters.specs.Taken.{withRecord};
 use numbers::big_endian::get16;
 use numbers::big_endian::get24;
 use numbers::big_endian::get32;
 use table::answer::RosterAnswer;
-use table::state::Customer;
-use table::state::SLOTS;
-use table::state::TOTAL;
-use table::state::Table;
-use table::state::empty_table;
-use table::state::no_call;
-use table::state::no_customer;
-use table::state::no_standalone_place;
-
-pub struct RosterRead {
-    pub answer: RosterAnswer,
-    pub table: Table,
-}
-
-fn refused(answer: RosterAnswer) -> RosterRead
-    ensures { λ r. ⌜ (r .answer ≡ answer) × (r .table ≡ emptyTable) ⌝ }
-{
-    RosterRead {
-        answer,
-        table: empty_table(),
-    }
-}
+use table::answer::roster_number;
+use table::layout::TOTAL;
+use table::layout::Words;
+use table_words::customers::put_terms;
+use table_words::head::set_roster;
+use table_words::whole::clear_table;
 
 // Limit 0, limit above the total, or guarantee above limit.
 fn bad_share(guarantee: u16, limit: u16) -> bool
@@ -57,84 +43,81 @@ fn listed_before(s: &[u8], k: usize, address: u32) -> bool
     found
 }
 
-// A record's two numbers have seven bits each.
-fn customer_at(s: &[u8], k: usize) -> Customer
-    requires { ⌜ (14 + 6 * k ≤ length (now s)) × (k < 8) ⌝ }
-    ensures { λ r. ⌜ r ≡ customerIn (now (s .entry)) k ⌝ }
-{
-    let word = get16(s, 12 + 6 * k);
-    let places = [no_standalone_place(); 4];
-    Customer {
-        address: get32(s, 8 + 6 * k),
-        guarantee: (word / 512) as u8,
-        limit: (word / 4 % 128) as u8,
-        places,
-    }
-}
-
-fn accepted(s: &[u8], n: u8, customers: [Customer; 8]) -> RosterRead
-    requires { ⌜ (8 ≤ length (now s)) × (n ≡ customersIn (now s)) × (customers ≡ customersFrom (now s) n) ⌝ }
-    ensures { λ r. ⌜ (r .answer ≡ RosterAnswer.Accepted) × (r .table ≡ freshTable (now (s .entry))) ⌝ }
-{
-    let calls = [no_call(); SLOTS];
-    let table = Table {
-        address: get32(s, 1),
-        epoch: get24(s, 5),
-        next: 1,
-        listed: n,
-        occupied: 0,
-        customers,
-        calls,
-    };
-    RosterRead {
-        answer: RosterAnswer::Accepted,
-        table,
-    }
-}
-
 // The records front to back, then the sum of the guarantees.
-fn read_records(s: &[u8], n: u8) -> RosterRead
+fn records_answer(s: &[u8], n: u8) -> RosterAnswer
     requires { ⌜ (n ≡ customersIn (now s)) × (n ≤ 8) × (length (now s) ≡ 8 + 6 * n) ⌝ }
-    ensures { λ r. ⌜ (r .answer ≡ recordsAnswer (now (s .entry)) 0 n) × (r .table ≡ tableFor (recordsAnswer (now (s .entry)) 0 n) (now (s .entry))) ⌝ }
+    ensures { λ r. ⌜ r ≡ recordsAnswer (now (s .entry)) 0 n ⌝ }
 {
     let count = n as usize;
-    let mut customers = [no_customer(); 8];
     let mut sum: usize = 0;
     let mut k: usize = 0;
     while k < count {
         let word = get16(s, 12 + 6 * k);
         if word % 4 != 0 {
-            return refused(RosterAnswer::SpareBits);
+            return RosterAnswer::SpareBits;
         }
         if bad_share(word / 512, word / 4 % 128) {
-            return refused(RosterAnswer::Share);
+            return RosterAnswer::Share;
         }
         if listed_before(s, k, get32(s, 8 + 6 * k)) {
-            return refused(RosterAnswer::Repeated);
+            return RosterAnswer::Repeated;
         }
-        customers[k] = customer_at(s, k);
         sum += (word / 512) as usize;
         k += 1;
     }
     if TOTAL < sum {
-        return refused(RosterAnswer::Guarantees);
+        return RosterAnswer::Guarantees;
     }
-    accepted(s, n, customers)
+    RosterAnswer::Accepted
 }
 
-// The answer to a roster of any bytes, and its table: the fresh one, or the empty one after a refusal.
-pub fn read_roster(s: &[u8]) -> RosterRead
-    ensures { λ r. ⌜ (r .answer ≡ rosterAnswer (now (s .entry))) × (r .table ≡ tableFor (rosterAnswer (now (s .entry))) (now (s .entry))) ⌝ }
+// A record's terms: two numbers of seven bits each.
+fn put_record(t: &mut Words, s: &[u8], k: usize)
+    requires { ⌜ (14 + 6 * k ≤ length (now s)) × (k < 8) ⌝ }
+    ensures { λ _. ⌜ tableOf (now (t .exit)) ≡ withRecord (tableOf (now (t .entry))) (now (s .entry)) k ⌝ }
 {
+    let word = get16(s, 12 + 6 * k);
+    put_terms(
+        t,
+        k,
+        get32(s, 8 + 6 * k),
+        (word / 512) as u32,
+        (word / 4 % 128) as u32,
+    )
+}
+
+// The roster as read, into an empty table.
+fn put_roster(t: &mut Words, s: &[u8], n: u8)
+    requires { ⌜ (tableOf (now t) ≡ emptyTable) × (n ≡ customersIn (now s)) × (n ≤ 8) × (length (now s) ≡ 8 + 6 * n) ⌝ }
+    ensures { λ _. ⌜ tableOf (now (t .exit)) ≡ freshTable (now (s .entry)) ⌝ }
+{
+    let count = n as usize;
+    let mut k: usize = 0;
+    while k < count {
+        put_record(t, s, k);
+        k += 1;
+    }
+    set_roster(t, get32(s, 1), get24(s, 5), n as u32)
+}
+
+// The answer to a roster of any bytes. The table is then the fresh one, or after a refusal the empty one, whatever it held.
+pub fn read_roster(t: &mut Words, s: &[u8]) -> RosterAnswer
+    ensures { λ r. ⌜ (r ≡ rosterAnswer (now (s .entry))) × (tableOf (now (t .exit)) ≡ tableFor (rosterAnswer (now (s .entry))) (now (s .entry))) ⌝ }
+{
+    clear_table(t);
     if s.len() < 8 {
-        return refused(RosterAnswer::Short);
+        return RosterAnswer::Short;
     }
     let n = s[0] % 16;
     if (s[0] / 16 != 1) | (n == 0) | (8 < n) {
-        return refused(RosterAnswer::Form);
+        return RosterAnswer::Form;
     }
     if s.len() != 8 + 6 * (n as usize) {
-        return refused(RosterAnswer::Length);
+        return RosterAnswer::Length;
     }
-    read_records(s, n)
+    let answer = records_answer(s, n);
+    if roster_number(answer) == 0 {
+        put_roster(t, s, n);
+    }
+    answer
 }

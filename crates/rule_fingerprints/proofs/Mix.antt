@@ -3,13 +3,22 @@
 use Prim.Native.Nat.{ℕ, _+_, _*_, _<_, _≤_, min}
 use native.Mathlib.Omega.{arith}
 use native.Mathlib.Numerals.{add-one}
-use mathlib.Core.Path.{_≡_}
+use mathlib.Core.Path.{_≡_, ap, _∙_}
 use mathlib.Core.List.{List}
 use lib.ListN.{length, take, drop, getD, length-take, drop-of-length-le}
 use lib.Seq.{drop-cons, getD-take}
+use Rattle.table.specs.Total.{total}
+use Rattle.table.specs.Lists.{callAt}
+use Rattle.table.specs.Words.{callStart, tableOf}
+use Rattle.table.proofs.Cells.{call-at}
+use Rattle.table_words.proofs.NameBytes.{name-long}
 use Rattle.rule_fingerprints.specs.Fingerprints.{mixed}
 
--- the first `s` bytes of an array of 32
+-- a slot's name has room for 32 bytes
+pub name-room : (w : List ℕ) (i : ℕ) → i < total → length (callAt (tableOf w) i .name) ≡ 32
+name-room w i h = ap (λ c. length (c .name)) (call-at w i h) ∙ name-long w (callStart i + 8)
+
+-- the first `s` bytes of 32
 module _ (l : List ℕ) (s : ℕ) (long : length l ≡ 32) where
   size : length (take s l) ≡ min s 32
   size = simp (length-take, long)

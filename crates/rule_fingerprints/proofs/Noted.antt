@@ -1,23 +1,27 @@
 -- Fingerprints noted in an array: a fingerprint stays noted, and a list of fingerprints is noted whole.
 -- Assumes nothing.
-use Prim.Native.Nat.{ℕ, zero, suc}
-use mathlib.Core.Path.{_≡_, refl, sym, _∙_}
+use Prim.Native.Nat.{ℕ, zero, suc, _*_, _/_, _%_, _^_, _<_}
+use native.Mathlib.Omega.{arith}
+use mathlib.Core.Path.{_≡_, refl, sym, ap, _∙_}
 use mathlib.Core.List.{List, [], _∷_, _++_}
-use mathlib.Core.Bool.{Bool, true, false, not, _||_}
+use mathlib.Core.Bool.{Bool, true, false, true≢false, cond, not, _||_}
 use lib.Dec.{eqb, ltb}
+use lib.Bits.{bitXor}
 use lib.ListN.{length, getD, set, length-set}
 use lib.Seq.{getD-set-same}
-use borrow.Author.Tests.{eq-eqb, eqb-true, ltb-true}
+use borrow.Author.Tests.{eqb-true, ltb-true}
 use Rattle.lists.specs.Count.{has}
 use Rattle.lists.specs.Pairs.{meet}
 use Rattle.lists.proofs.Count.{has-append, has-cons, has-less}
-use Rattle.rule_fingerprints.specs.Fingerprints.{isNoted, noted}
+use Rattle.table.specs.Word.{isUsed, flipped}
+use Rattle.table.proofs.Slots.{flipped-free, flipped-other}
+use Rattle.rule_fingerprints.specs.Fingerprints.{isNoted, notedOne, noted}
 
 -- a fingerprint that is not noted
 abbrev pub unnoted : List ℕ → ℕ → Bool
 unnoted l m = not (isNoted l m)
 
--- a fingerprint outside an array of `n`
+-- a fingerprint outside an array of `n` bits
 abbrev pub outside : ℕ → ℕ → Bool
 outside n m = not (ltb m n)
 
@@ -31,12 +35,55 @@ not-false false h = cc
 
 -- ---- one fingerprint
 
-set-keeps : (l : List ℕ) (k m : ℕ) → getD l m 0 ≡ 1 → getD (set l k 1) m 0 ≡ 1
-set-keeps [] k m h = h
-set-keeps (x ∷ l) zero zero h = refl
-set-keeps (x ∷ l) zero (suc m) h = h
-set-keeps (x ∷ l) (suc k) zero h = h
-set-keeps (x ∷ l) (suc k) (suc m) h = set-keeps l k m h
+set-keeps : (l : List ℕ) (i j x b : ℕ) → isUsed (getD l j 0) b ≡ true → (j ≡ i → isUsed x b ≡ true) → isUsed (getD (set l i x) j 0) b ≡ true
+set-keeps [] i j x b h k = h
+set-keeps (y ∷ l) zero zero x b h k = k refl
+set-keeps (y ∷ l) zero (suc j) x b h k = h
+set-keeps (y ∷ l) (suc i) zero x b h k = h
+set-keeps (y ∷ l) (suc i) (suc j) x b h k = set-keeps l i j x b h (λ e. k (ap suc e))
+
+flip-keeps : (w i j : ℕ) → isUsed w i ≡ false → isUsed w j ≡ true → isUsed (flipped w i) j ≡ true
+flip-keeps w i j f h = flipped-other w i j (λ e. true≢false (sym h ∙ rw e f)) ∙ h
+
+one-keeps : (l : List ℕ) (k m : ℕ) → isNoted l m ≡ true → isNoted (notedOne l k) m ≡ true
+unfolding notedOne
+one-keeps l k m h = by (isNoted l k) refl
+  where
+    by : (b : Bool) → isNoted l k ≡ b → isNoted (cond b l (set l (k / 64) (flipped (getD l (k / 64) 0) (k % 64)))) m ≡ true
+    by true e = h
+    by false e = set-keeps l (k / 64) (m / 64) _ (m % 64) h (λ d. flip-keeps _ (k % 64) (m % 64) e (rw d at h))
+
+pub one-again : (l : List ℕ) (m : ℕ) → isNoted l m ≡ true → l ≡ notedOne l m
+unfolding notedOne
+one-again l m h = rw h
+
+pub one-anew : (l : List ℕ) (m x : ℕ) → isNoted l m ≡ false → x ≡ 2 ^ (m % 64) → set l (m / 64) (bitXor (getD l (m / 64) 0) x) ≡ notedOne l m
+unfolding notedOne
+one-anew l m x h e = rw (h, e)
+
+-- what is not noted after was not before
+pub one-free : (l : List ℕ) (k m : ℕ) → isNoted (notedOne l k) m ≡ false → isNoted l m ≡ false
+one-free l k m h = by (isNoted l m) refl
+  where
+    by : (b : Bool) → isNoted l m ≡ b → b ≡ false
+    by true e = let z = one-keeps l k m e in cc
+    by false e = refl
+
+one-here : (l : List ℕ) (m : ℕ) → m < 64 * length l → isNoted (notedOne l m) m ≡ true
+unfolding notedOne
+one-here l m h = by (isNoted l m) refl
+  where
+    by : (b : Bool) → isNoted l m ≡ b → isNoted (cond b l (set l (m / 64) (flipped (getD l (m / 64) 0) (m % 64)))) m ≡ true
+    by true e = e
+    by false e = rw (getD-set-same l (m / 64) (flipped (getD l (m / 64) 0) (m % 64)) 0 (omega arith)) (flipped-free (getD l (m / 64) 0) (m % 64) e)
+
+one-length : (l : List ℕ) (m : ℕ) → length (notedOne l m) ≡ length l
+unfolding notedOne
+one-length l m = by (isNoted l m)
+  where
+    by : (b : Bool) → length (cond b l (set l (m / 64) (flipped (getD l (m / 64) 0) (m % 64)))) ≡ length l
+    by true = refl
+    by false = length-set l (m / 64) (flipped (getD l (m / 64) 0) (m % 64))
 
 -- ---- a list of fingerprints
 
@@ -47,19 +94,18 @@ noted-none l = refl
 pub noted-length : (l ms : List ℕ) → length (noted l ms) ≡ length l
 unfolding noted
 noted-length l [] = refl
-noted-length l (m ∷ ms) = noted-length (set l m 1) ms ∙ length-set l m 1
+noted-length l (m ∷ ms) = noted-length (notedOne l m) ms ∙ one-length l m
 
 pub noted-append : (l ms ns : List ℕ) → noted l (ms ++ ns) ≡ noted (noted l ms) ns
 unfolding noted
 noted-append l [] ns = refl
-noted-append l (m ∷ ms) ns = noted-append (set l m 1) ms ns
+noted-append l (m ∷ ms) ns = noted-append (notedOne l m) ms ns
 
 pub still-noted : (l ms : List ℕ) (m : ℕ) → isNoted l m ≡ true → isNoted (noted l ms) m ≡ true
 unfolding noted
 still-noted l [] m h = h
-still-noted l (k ∷ ms) m h = still-noted (set l k 1) ms m (eq-eqb _ _ (set-keeps l k m (eqb-true _ _ h)))
+still-noted l (k ∷ ms) m h = still-noted (notedOne l k) ms m (one-keeps l k m h)
 
--- what is not noted after was not before
 pub free-before : (l ms ns : List ℕ) → has (isNoted (noted l ms)) ns ≡ false → has (isNoted l) ns ≡ false
 free-before l ms ns h = has-less _ _ ns (λ m. still-noted l ms m) h
 
@@ -71,15 +117,15 @@ all-noted-after l ms ns h = has-less _ _ ns (λ m z. by m (isNoted l m) refl z) 
     by m true e z = let k = still-noted l ms m e in rw (k) at z
     by m false e z = refl
 
-pub all-noted : (l ms : List ℕ) → has (outside (length l)) ms ≡ false → has (unnoted (noted l ms)) ms ≡ false
+pub all-noted : (l ms : List ℕ) → has (outside (64 * length l)) ms ≡ false → has (unnoted (noted l ms)) ms ≡ false
 unfolding noted
 all-noted l [] h = refl
 all-noted l (m ∷ ms) h =
-    let k = neither _ _ (sym (has-cons (outside (length l)) m ms) ∙ h) in
-    let here : isNoted (noted (set l m 1) ms) m ≡ true =
-    still-noted (set l m 1) ms m (eq-eqb _ _ (getD-set-same l m 1 0 (ltb-true _ _ (not-false _ (k .0))))) in
-    rw (has-cons (unnoted (noted (set l m 1) ms)) m ms, here)
-    (all-noted (set l m 1) ms (rw (length-set l m 1) (k .1)))
+    let k = neither _ _ (sym (has-cons (outside (64 * length l)) m ms) ∙ h) in
+    let here : isNoted (noted (notedOne l m) ms) m ≡ true =
+    still-noted (notedOne l m) ms m (one-here l m (ltb-true _ _ (not-false _ (k .0)))) in
+    rw (has-cons (unnoted (noted (notedOne l m) ms)) m ms, here)
+    (all-noted (notedOne l m) ms (rw (one-length l m) (k .1)))
 
 -- where all of one list is noted and nothing of the other, they have no fingerprint in common
 pub no-fingerprint-shared : (l ms ns : List ℕ) → has (unnoted l) ms ≡ false → has (isNoted l) ns ≡ false → meet eqb ms ns ≡ false
@@ -92,15 +138,15 @@ no-fingerprint-shared l (m ∷ ms) ns h f =
 
 -- ---- a turn of the loop that notes one more
 
-pub noted-turn : (l s ms : List ℕ) (m : ℕ) → s ≡ noted l ms → set s m 1 ≡ noted l (ms ++ (m ∷ []))
+pub noted-turn : (l s ms : List ℕ) (m : ℕ) → s ≡ noted l ms → notedOne s m ≡ noted l (ms ++ (m ∷ []))
 unfolding noted
 noted-turn l s ms m e = rw (noted-append l ms (m ∷ []), e)
 
-pub free-turn : (l s ms : List ℕ) (m : ℕ) (near : Bool) → s ≡ noted l ms → (near ≡ false → has (isNoted l) ms ≡ false) → (near || isNoted s m) ≡ false
-    → has (isNoted l) (ms ++ (m ∷ [])) ≡ false
-free-turn l s ms m near e h z =
-    let k = neither near (isNoted s m) z in
-    rw (has-append (isNoted l) ms (m ∷ []), h (k .0), has-cons (isNoted l) m []) (rw (by (isNoted l m) refl (k .1)))
+pub free-turn : (l s ms : List ℕ) (m : ℕ) (near was : Bool) → s ≡ noted l ms → (near ≡ false → has (isNoted l) ms ≡ false) → was ≡ isNoted s m
+    → (near || was) ≡ false → has (isNoted l) (ms ++ (m ∷ [])) ≡ false
+free-turn l s ms m near was e h g z =
+    let k = neither near was z in
+    rw (has-append (isNoted l) ms (m ∷ []), h (k .0), has-cons (isNoted l) m []) (rw (by (isNoted l m) refl (sym g ∙ k .1)))
   where
     by : (b : Bool) → isNoted l m ≡ b → isNoted s m ≡ false → b ≡ false
     by true q f = let w = still-noted l ms m q in rw (e, w) at f

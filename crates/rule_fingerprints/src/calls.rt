@@ -1,30 +1,52 @@
 // A call against those noted before it.
 ghost use mathlib.Core.Path.{_≡_};
 ghost use mathlib.Core.Bool.{false};
+ghost use Prim.Native.Nat.{_<_};
 ghost use Rattle.lists.specs.Count.{has};
-ghost use Rattle.rule_fingerprints.specs.Fingerprints.{fingerprintsOf, isNoted, noted};
+ghost use Rattle.table.specs.Total.{total};
+ghost use Rattle.table.specs.Lists.{callAt};
+ghost use Rattle.table.specs.Words.{tableOf};
+ghost use Rattle.rule_fingerprints.specs.Fingerprints.{fingerprintsOf, isNoted, notedOne, noted};
 use crate::fingerprint::long_fingerprint;
 use crate::fingerprint::lsp_fingerprint;
+use crate::fingerprint::name_mixed;
 use crate::fingerprint::short_fingerprint;
-use table::state::Call;
+use table::layout::Words;
+use table::word::is_used;
+use table_words::calls::call_head;
+use table_words::fours::call_four;
+use table_words::fours::place_words;
 
-// Notes a call's fingerprints. Where it says no, none of them was noted before; it may say yes of a call that shares
-// nothing, since fingerprints can coincide.
-pub fn note_call(seen: &mut [u8; 24576], c: Call) -> bool
-    ensures { λ r. ⌜ (now (seen .exit) ≡ noted (now (seen .entry)) (fingerprintsOf c)) × (r ≡ false → has (isNoted (now (seen .entry))) (fingerprintsOf c) ≡ false) ⌝ }
+// Notes a fingerprint, and says whether it was noted before.
+fn note(seen: &mut [u64; 384], m: usize) -> bool
+    requires { ⌜ m < 24576 ⌝ }
+    ensures { λ r. ⌜ (now (seen .exit) ≡ notedOne (now (seen .entry)) m) × (r ≡ isNoted (now (seen .entry)) m) ⌝ }
 {
-    let short = short_fingerprint(c);
-    let long = long_fingerprint(c);
-    let mut near = (seen[short] == 1) | (seen[long] == 1);
-    seen[short] = 1;
-    seen[long] = 1;
+    let word = seen[m / 64];
+    let bit = m % 64;
+    if is_used(word, bit) {
+        return true;
+    }
+    seen[m / 64] = word ^ (1u64 << bit);
+    false
+}
+
+// Notes the fingerprints of a slot's call; whoever asks says why the slot is one of the table's. Where it says no, none of
+// them was noted before; it may say yes of a call that shares nothing, since fingerprints can coincide.
+pub fn note_call(seen: &mut [u64; 384], t: &Words, i: usize) -> bool
+    requires { ⌜ i < total ⌝ }
+    ensures { λ r. ⌜ (now (seen .exit) ≡ noted (now (seen .entry)) (fingerprintsOf (callAt (tableOf (now (t .entry))) i))) × (r ≡ false → has (isNoted (now (seen .entry))) (fingerprintsOf (callAt (tableOf (now (t .entry))) i)) ≡ false) ⌝ }
+{
+    let c = call_head(t, i);
+    let f = call_four(t, i);
+    let short = note(seen, short_fingerprint(c));
+    let long = note(seen, long_fingerprint(c, name_mixed(t, i)));
+    let mut near = short | long;
     let mut j: usize = 0;
     while j < 4 {
-        let p = c.places[j];
-        if p.taken {
-            let m = lsp_fingerprint(c, p);
-            near = near | (seen[m] == 1);
-            seen[m] = 1;
+        let p = place_words(t, f, j);
+        if p.taken == 1 {
+            near = near | note(seen, lsp_fingerprint(c, p));
         }
         j += 1;
     }

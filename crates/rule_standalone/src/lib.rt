@@ -1,172 +1,146 @@
 // The connections of Call ID 0: against those under calls, and against each other.
 ghost use mathlib.Core.Path.{_≡_};
-ghost use mathlib.Core.Bool.{not, _&&_};
-ghost use Rattle.lists.specs.Count.{has, noTwo};
-ghost use Rattle.lists.specs.Below.{below};
+ghost use mathlib.Core.Bool.{not, _&&_, _||_};
+ghost use Prim.Native.Nat.{_<_};
+ghost use lib.Dec.{ltb};
+ghost use Rattle.lists.specs.Count.{noTwo};
+ghost use Rattle.lists.specs.Below.{below, everyBelow};
 ghost use Rattle.lists.specs.Pairs.{meet};
-ghost use Rattle.table.specs.Total.{totalOf};
-ghost use Rattle.table.specs.Lists.{underCall, withNoCall, heldIn, heldAt, standaloneIn, standaloneAt};
+ghost use Rattle.table.specs.Total.{total, totalOf};
+ghost use Rattle.table.specs.Word.{isUsed};
+ghost use Rattle.table.specs.Lists.{callAt, customerAt, callFour, customerFour, heldIn, heldAt, standaloneAt};
 ghost use Rattle.table.specs.Rules.{sameLsp};
-use table::state::Call;
-use table::state::Customer;
-use table::state::Place;
-use table::state::SLOTS;
-use table::state::StandalonePlace;
-use table::state::Table;
+ghost use Rattle.table.specs.Words.{tableOf};
+ghost use Rattle.table_words.specs.Fours.{fourAtWord, Inside};
+use fours::four_once;
+use fours::fours_meet;
+use fours::has_taken;
+use table::layout::SLOTS;
+use table::layout::Words;
 use table::word::is_used;
+use table_words::fours::FourPlace;
+use table_words::fours::call_four;
+use table_words::fours::customer_four;
+use table_words::head::listed;
+use table_words::head::occupied;
 
-// A connection under a call is the customer's, by the five fields.
-fn same_as_standalone(c: Call, p: Place, m: Customer, q: StandalonePlace) -> bool
-    ensures { λ r. ⌜ r ≡ sameLsp (underCall c p) (withNoCall m q) ⌝ }
+// The same four, made anew: then the compiler stores it where it is used, and not before the test that comes first.
+fn anew(f: FourPlace) -> FourPlace
+    ensures { λ r. ⌜ r ≡ f ⌝ }
 {
-    (c.endpoint == q.endpoint)
-        & (c.sender == m.address)
-        & (p.tunnel.0 == q.tunnel.0)
-        & (p.extended == q.extended)
-        & (p.lsp.0 == q.lsp.0)
+    let call = f.call;
+    FourPlace {
+        call,
+        sender: f.sender,
+        endpoint: f.endpoint,
+        each: f.each,
+        places: f.places,
+    }
 }
 
-fn is_standalone(c: Call, p: Place, m: Customer) -> bool
-    ensures { λ r. ⌜ r ≡ has (sameLsp (underCall c p)) (standaloneIn m) ⌝ }
+// A connection in a slot is also one of the four's. A free slot has none, and a call of another sender none in common.
+fn slot_meets(t: &Words, word: u64, i: usize, g: FourPlace) -> bool
+    requires { ⌜ (i < total) × Inside g ⌝ }
+    ensures { λ r. ⌜ r ≡ (isUsed word i && meet sameLsp (heldIn (callFour (callAt (tableOf (now (t .entry))) i))) (heldIn (fourAtWord (now (t .entry)) g))) ⌝ }
 {
-    let mut found = false;
-    let mut j: usize = 0;
-    while j < 4 {
-        let q = m.places[j];
-        found = found | (q.taken & same_as_standalone(c, p, m, q));
-        j += 1;
-    }
-    found
-}
-
-// A connection of the call is also one of the customer's. A call of another sender has none.
-fn call_meets(c: Call, m: Customer) -> bool
-    ensures { λ r. ⌜ r ≡ meet sameLsp (heldIn c) (standaloneIn m) ⌝ }
-{
-    if c.sender != m.address {
-        return false;
-    }
-    // Where none of the customer's is to the call's end point, the places need not be compared.
-    let mut near = false;
-    let mut j: usize = 0;
-    while j < 4 {
-        near = near | (m.places[j].endpoint == c.endpoint);
-        j += 1;
-    }
-    let mut found = false;
-    let mut i: usize = if near { 0 } else { 4 };
-    while i < 4 {
-        let p = c.places[i];
-        found = found | (p.taken & is_standalone(c, p, m));
-        i += 1;
-    }
-    found
-}
-
-fn same_standalone(k: Customer, p: StandalonePlace, m: Customer, q: StandalonePlace) -> bool
-    ensures { λ r. ⌜ r ≡ sameLsp (withNoCall k p) (withNoCall m q) ⌝ }
-{
-    (p.endpoint == q.endpoint)
-        & (k.address == m.address)
-        & (p.tunnel.0 == q.tunnel.0)
-        & (p.extended == q.extended)
-        & (p.lsp.0 == q.lsp.0)
-}
-
-fn is_among_standalone(k: Customer, p: StandalonePlace, m: Customer) -> bool
-    ensures { λ r. ⌜ r ≡ has (sameLsp (withNoCall k p)) (standaloneIn m) ⌝ }
-{
-    let mut found = false;
-    let mut j: usize = 0;
-    while j < 4 {
-        let q = m.places[j];
-        found = found | (q.taken & same_standalone(k, p, m, q));
-        j += 1;
-    }
-    found
-}
-
-// A connection of the one is also the other's. Customers of other addresses have none in common.
-fn customers_meet(k: Customer, m: Customer) -> bool
-    ensures { λ r. ⌜ r ≡ meet sameLsp (standaloneIn k) (standaloneIn m) ⌝ }
-{
-    if k.address != m.address {
-        return false;
-    }
-    let mut found = false;
-    let mut i: usize = 0;
-    while i < 4 {
-        let p = k.places[i];
-        found = found | (p.taken & is_among_standalone(k, p, m));
-        i += 1;
-    }
-    found
-}
-
-fn customer_once(m: Customer) -> bool
-    ensures { λ r. ⌜ r ≡ noTwo sameLsp (standaloneIn m) ⌝ }
-{
-    let mut once = true;
-    let mut i: usize = 0;
-    while i < 4 {
-        let q = m.places[i];
-        let mut j: usize = 0;
-        while j < i {
-            let p = m.places[j];
-            once = once & !(p.taken & (q.taken & same_standalone(m, p, m, q)));
-            j += 1;
+    if is_used(word, i) {
+        let f = call_four(t, i);
+        if f.sender != g.sender {
+            return false;
         }
+        return fours_meet(t, anew(f), anew(g));
+    }
+    false
+}
+
+// A connection under a call is also one of the four's. Where none of the four is taken, the calls need not be looked at.
+fn calls_meet(t: &Words, g: FourPlace) -> bool
+    requires { ⌜ Inside g ⌝ }
+    ensures { λ r. ⌜ r ≡ meet sameLsp (below (heldAt (tableOf (now (t .entry)))) (totalOf (tableOf (now (t .entry))))) (heldIn (fourAtWord (now (t .entry)) g)) ⌝ }
+{
+    if !has_taken(t, g) {
+        return false;
+    }
+    let word = occupied(t);
+    let mut found = false;
+    let mut i: usize = 0;
+    while i < SLOTS {
+        found = found | slot_meets(t, word, i, g);
         i += 1;
     }
-    once
+    found
+}
+
+// The same, of a customer's four. An unused roster record has no connections.
+fn calls_meet_record(t: &Words, listed: usize, k: usize) -> bool
+    requires { ⌜ k < 8 ⌝ }
+    ensures { λ r. ⌜ r ≡ (ltb k listed && meet sameLsp (below (heldAt (tableOf (now (t .entry)))) (totalOf (tableOf (now (t .entry))))) (heldIn (customerFour (customerAt (tableOf (now (t .entry))) k)))) ⌝ }
+{
+    if k < listed {
+        return calls_meet(t, customer_four(t, k));
+    }
+    false
 }
 
 // No connection under a call is also one of Call ID 0.
-fn calls_meet_none(t: Table) -> bool
-    ensures { λ r. ⌜ r ≡ not (meet sameLsp (below (heldAt t) (totalOf t)) (below (standaloneAt t) 8)) ⌝ }
+fn calls_meet_none(t: &Words) -> bool
+    ensures { λ r. ⌜ r ≡ not (meet sameLsp (below (heldAt (tableOf (now (t .entry)))) (totalOf (tableOf (now (t .entry))))) (below (standaloneAt (tableOf (now (t .entry)))) 8)) ⌝ }
 {
-    let listed = t.listed as usize;
+    let listed = listed(t);
     let mut apart = true;
-    let mut i: usize = 0;
-    while i < SLOTS {
-        let c = t.calls[i];
-        let used = is_used(t.occupied, i);
-        // A free slot has no connections: the customers need not be looked at.
-        let mut k: usize = if used { 0 } else { 8 };
-        while k < 8 {
-            let m = t.customers[k];
-            apart = apart & !(used & ((k < listed) & call_meets(c, m)));
-            k += 1;
-        }
-        i += 1;
+    let mut k: usize = 0;
+    while k < 8 {
+        apart = apart & !calls_meet_record(t, listed, k);
+        k += 1;
     }
     apart
 }
 
-// No two connections of Call ID 0 are alike.
-fn customers_apart(t: Table) -> bool
-    ensures { λ r. ⌜ r ≡ noTwo sameLsp (below (standaloneAt t) 8) ⌝ }
+// A customer's connections are none of an earlier customer's.
+fn record_apart(t: &Words, listed: usize, i: usize) -> bool
+    requires { ⌜ i < 8 ⌝ }
+    ensures { λ r. ⌜ r ≡ everyBelow (λ j. not (ltb j listed && (ltb i listed && meet sameLsp (heldIn (customerFour (customerAt (tableOf (now (t .entry))) j))) (heldIn (customerFour (customerAt (tableOf (now (t .entry))) i)))))) i ⌝ }
 {
-    let listed = t.listed as usize;
+    if listed <= i {
+        return true;
+    }
+    let g = customer_four(t, i);
+    let mut apart = true;
+    let mut j: usize = 0;
+    while j < i {
+        apart = apart & !fours_meet(t, customer_four(t, j), g);
+        j += 1;
+    }
+    apart
+}
+
+fn record_once(t: &Words, listed: usize, i: usize) -> bool
+    requires { ⌜ i < 8 ⌝ }
+    ensures { λ r. ⌜ r ≡ (not (ltb i listed) || noTwo sameLsp (heldIn (customerFour (customerAt (tableOf (now (t .entry))) i)))) ⌝ }
+{
+    if i < listed {
+        return four_once(t, customer_four(t, i));
+    }
+    true
+}
+
+// No two connections of Call ID 0 are alike.
+fn customers_apart(t: &Words) -> bool
+    ensures { λ r. ⌜ r ≡ noTwo sameLsp (below (standaloneAt (tableOf (now (t .entry)))) 8) ⌝ }
+{
+    let listed = listed(t);
     let mut apart = true;
     let mut i: usize = 0;
     while i < 8 {
-        let m = t.customers[i];
-        let mut j: usize = 0;
-        while j < i {
-            let k = t.customers[j];
-            apart = apart & !((j < listed) & ((i < listed) & customers_meet(k, m)));
-            j += 1;
-        }
-        apart = apart & (!(i < listed) | customer_once(m));
+        apart = apart & record_apart(t, listed, i) & record_once(t, listed, i);
         i += 1;
     }
     apart
 }
 
 // What connections of Call ID 0 add to the rule that no connection is held twice.
-pub fn standalone_once(t: Table) -> bool
-    ensures { λ r. ⌜ r ≡ (noTwo sameLsp (below (standaloneAt t) 8) && not (meet sameLsp (below (heldAt t) (totalOf t)) (below (standaloneAt t) 8))) ⌝ }
+pub fn standalone_once(t: &Words) -> bool
+    ensures { λ r. ⌜ r ≡ (noTwo sameLsp (below (standaloneAt (tableOf (now (t .entry)))) 8) && not (meet sameLsp (below (heldAt (tableOf (now (t .entry)))) (totalOf (tableOf (now (t .entry))))) (below (standaloneAt (tableOf (now (t .entry)))) 8))) ⌝ }
 {
     customers_apart(t) & calls_meet_none(t)
 }

@@ -1,4 +1,4 @@
 pub mod Names
-pub mod Held
+pub mod Conflicts
 pub mod Near
 pub mod Apart

@@ -1,76 +1,65 @@
 // The open calls against each other.
 ghost use mathlib.Core.Path.{_≡_};
-ghost use mathlib.Core.Bool.{_&&_, _||_};
-ghost use lib.ListN.{take};
+ghost use mathlib.Core.Bool.{cond, not, _&&_};
+ghost use Prim.Native.Nat.{_<_};
 ghost use Rattle.lists.specs.Count.{noTwo};
-ghost use Rattle.lists.specs.Below.{below};
-ghost use Rattle.lists.specs.Pairs.{meet};
-ghost use Rattle.table.specs.Total.{totalOf};
-ghost use Rattle.table.specs.Lists.{idsOf, heldIn, heldAt};
-ghost use Rattle.table.specs.Rules.{sameBytes, sameShort, sameLong, sameLsp, holds, shortIdsOnce, longIdsOnce};
-use crate::places::places_meet;
-use crate::places::places_once;
+ghost use Rattle.lists.specs.Below.{below, everyBelow};
+ghost use Rattle.table.specs.Total.{total, totalOf};
+ghost use Rattle.table.specs.Word.{isUsed};
+ghost use Rattle.table.specs.Lists.{callAt, heldAt};
+ghost use Rattle.table.specs.Rules.{sameLsp, holds, shortIdsOnce, longIdsOnce};
+ghost use Rattle.table.specs.Words.{tableOf};
+ghost use Rattle.rule_fingerprints.specs.Fingerprints.{fingerprintsOf, noted};
+ghost use Rattle.rule_uniqueness.specs.Conflict.{conflict, apartAt, onceAt, Noted};
+use crate::pairs::conflicts_with;
+use fours::four_once;
 use rule_fingerprints::calls::note_call;
-use table::state::Call;
-use table::state::SLOTS;
-use table::state::Table;
-use table::state::name_size;
+use table::layout::SLOTS;
+use table::layout::Words;
 use table::word::is_used;
+use table_words::fours::call_four;
+use table_words::head::occupied;
 
-// Two calls have the same long Call ID. Names are compared only where they are as long.
-pub fn same_name(c: Call, d: Call) -> bool
-    ensures { λ r. ⌜ r ≡ sameBytes (take (c .size) (c .name)) (take (d .size) (d .name)) ⌝ }
+// A slot's call is in conflict with none of the earlier ones.
+fn apart_from_earlier(t: &Words, word: u64, i: usize) -> bool
+    requires { ⌜ i < total ⌝ }
+    ensures { λ r. ⌜ r ≡ everyBelow (λ j. not (isUsed word j && conflict (callAt (tableOf (now (t .entry))) j) (callAt (tableOf (now (t .entry))) i))) i ⌝ }
 {
-    let n = name_size(c.size);
-    if n != name_size(d.size) {
-        return false;
+    let mut apart = true;
+    let mut j: usize = 0;
+    while j < i {
+        apart = apart & !conflicts_with(t, word, j, i);
+        j += 1;
     }
-    let mut k: usize = 0;
-    while k < n {
-        if c.name[k] != d.name[k] {
-            return false;
+    apart
+}
+
+// A slot is apart from the earlier ones, whose fingerprints are noted, and holds no connection twice. A free slot is; and
+// only a call that can share something with an earlier one is compared with them.
+fn slot_apart(seen: &mut [u64; 384], t: &Words, word: u64, i: usize) -> bool
+    requires { ⌜ (i < total) × Noted (now seen) word (tableOf (now t)) i ⌝ }
+    ensures { λ r. ⌜ (now (seen .exit) ≡ cond (isUsed word i) (noted (now (seen .entry)) (fingerprintsOf (callAt (tableOf (now (t .entry))) i))) (now (seen .entry))) × (r ≡ (everyBelow (apartAt word (tableOf (now (t .entry))) i) i && onceAt word (tableOf (now (t .entry))) i)) ⌝ }
+{
+    if is_used(word, i) {
+        let once = four_once(t, call_four(t, i));
+        if note_call(seen, t, i) {
+            return apart_from_earlier(t, word, i) & once;
         }
-        k += 1;
+        return once;
     }
     true
 }
 
-// Two open calls that cannot stand beside each other: of one pair, and with the same short ID, the same long ID or a
-// connection in common.
-fn in_conflict(c: Call, d: Call) -> bool
-    ensures { λ r. ⌜ r ≡ (sameShort (idsOf c) (idsOf d) || sameLong (idsOf c) (idsOf d) || meet sameLsp (heldIn c) (heldIn d)) ⌝ }
-{
-    if c.endpoint != d.endpoint {
-        return false;
-    }
-    if c.sender != d.sender {
-        return false;
-    }
-    let a = c.places;
-    let b = d.places;
-    (c.id.0 == d.id.0) | same_name(c, d) | places_meet(a, b)
-}
-
 // No two open calls are in conflict, and none holds a connection twice.
-pub fn calls_apart(t: Table) -> bool
-    ensures { λ r. ⌜ r ≡ (holds shortIdsOnce t && holds longIdsOnce t && noTwo sameLsp (below (heldAt t) (totalOf t))) ⌝ }
+pub fn calls_apart(t: &Words) -> bool
+    ensures { λ r. ⌜ r ≡ (holds shortIdsOnce (tableOf (now (t .entry))) && holds longIdsOnce (tableOf (now (t .entry))) && noTwo sameLsp (below (heldAt (tableOf (now (t .entry)))) (totalOf (tableOf (now (t .entry)))))) ⌝ }
 {
-    let mut seen: [u8; 24576] = [0; 24576];
+    let word = occupied(t);
+    let mut seen: [u64; 384] = [0; 384];
     let mut apart = true;
     let mut i: usize = 0;
     while i < SLOTS {
-        let d = t.calls[i];
-        let used = is_used(t.occupied, i);
-        let places = d.places;
-        // Only a call that can share something with an earlier one is compared with them.
-        let near = note_call(&mut seen, d);
-        let mut j: usize = if used & near { 0 } else { i };
-        while j < i {
-            let c = t.calls[j];
-            apart = apart & !(is_used(t.occupied, j) & (used & in_conflict(c, d)));
-            j += 1;
-        }
-        apart = apart & (!used | places_once(places));
+        apart = apart & slot_apart(&mut seen, t, word, i);
         i += 1;
     }
     apart

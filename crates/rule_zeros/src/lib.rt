@@ -1,186 +1,141 @@
 // The rules on names and Call IDs, and that what is free holds zeros.
 ghost use mathlib.Core.Path.{_≡_};
-ghost use mathlib.Core.Bool.{cond};
-ghost use Prim.Native.Nat.{_-_};
-ghost use Rattle.numbers.specs.Search.{zerosAt};
+ghost use mathlib.Core.Bool.{cond, not, _||_};
+ghost use Prim.Native.Nat.{_<_};
+ghost use lib.Dec.{eqb, ltb};
 ghost use Rattle.lists.specs.Below.{everyBelow};
-ghost use Rattle.table.specs.Total.{totalOf};
-ghost use Rattle.table.specs.Rules.{validIds, unusedClear, placeClear, standalonePlaceClear, callFreeClear, callClear, customerFreeClear, customerClear, slotFreeClear, recordFreeClear, holds, namesAndIds, freeHoldsZeros};
-use numbers::search::zeros;
-use table::state::Call;
-use table::state::Customer;
-use table::state::Place;
-use table::state::SLOTS;
-use table::state::StandalonePlace;
-use table::state::Table;
+ghost use Rattle.table.specs.Total.{total, totalOf};
+ghost use Rattle.table.specs.Word.{isUsed};
+ghost use Rattle.table.specs.Lists.{callAt, customerAt, placeAt, isTaken};
+ghost use Rattle.table.specs.Rules.{validIds, callFreeClear, callClear, customerFreeClear, customerClear, slotFreeClear, recordFreeClear, holds, namesAndIds, freeHoldsZeros};
+ghost use Rattle.table.specs.Words.{tableOf};
+ghost use Rattle.table_words.specs.Fours.{fourAtWord, Inside};
+use fours::four_valid;
+use table::layout::SLOTS;
+use table::layout::Words;
 use table::word::is_used;
+use table_words::calls::call_clear;
+use table_words::calls::call_head;
+use table_words::customers::customer_clear;
+use table_words::fours::FourPlace;
+use table_words::fours::call_four;
+use table_words::fours::customer_four;
+use table_words::fours::endpoint_at;
+use table_words::fours::place_words;
+use table_words::head::listed;
+use table_words::head::occupied;
+use table_words::names::past_name_clear;
 
-// A name of 1 to 32 bytes, and a Call ID that is not 0.
-fn valid_ids(c: Call) -> bool
-    ensures { λ r. ⌜ r ≡ validIds c ⌝ }
+// A name of 1 to 32 bytes, and a Call ID of sixteen bits that is not 0, or a free slot.
+fn ids_valid(t: &Words, word: u64, i: usize) -> bool
+    requires { ⌜ i < total ⌝ }
+    ensures { λ r. ⌜ r ≡ (not (isUsed word i) || validIds (callAt (tableOf (now (t .entry))) i)) ⌝ }
 {
-    (c.id.0 != 0) & (c.size != 0) & (c.size <= 32)
+    if is_used(word, i) {
+        let c = call_head(t, i);
+        return (c.id.0 != 0) & (c.id.0 < 0x10000) & (c.size != 0) & (c.size <= 32);
+    }
+    true
 }
 
-pub fn names_and_ids(t: Table) -> bool
-    ensures { λ r. ⌜ r ≡ holds namesAndIds t ⌝ }
+pub fn names_and_ids(t: &Words) -> bool
+    ensures { λ r. ⌜ r ≡ holds namesAndIds (tableOf (now (t .entry))) ⌝ }
 {
+    let word = occupied(t);
     let mut valid = true;
     let mut i: usize = 0;
     while i < SLOTS {
-        let c = t.calls[i];
-        valid = valid & (!is_used(t.occupied, i) | valid_ids(c));
+        valid = valid & ids_valid(t, word, i);
         i += 1;
     }
     valid
 }
 
-fn place_clear(p: Place) -> bool
-    ensures { λ r. ⌜ r ≡ placeClear p ⌝ }
+// Of an open call: what requests A6 and A7 will use, the bytes past its name, its places that are not taken.
+fn call_free_clear(t: &Words, i: usize) -> bool
+    requires { ⌜ i < total ⌝ }
+    ensures { λ r. ⌜ r ≡ callFreeClear (callAt (tableOf (now (t .entry))) i) ⌝ }
 {
-    !p.taken & (p.tunnel.0 == 0) & (p.extended == 0) & (p.lsp.0 == 0)
+    let c = call_head(t, i);
+    (c.made == 0)
+        & (c.refreshed == 0)
+        & (c.epoch == 0)
+        & (c.identifier == 0)
+        & past_name_clear(t, i)
+        & four_valid(t, call_four(t, i))
 }
 
-fn standalone_place_clear(p: StandalonePlace) -> bool
-    ensures { λ r. ⌜ r ≡ standalonePlaceClear p ⌝ }
-{
-    !p.taken & (p.endpoint == 0) & (p.tunnel.0 == 0) & (p.extended == 0) & (p.lsp.0 == 0)
-}
-
-// The bytes past a name; a longer size than the name's room leaves none. No early exit: then the compiler tests several
-// bytes at a time.
-fn past_name_clear(c: Call) -> bool
-    ensures { λ r. ⌜ r ≡ zerosAt (c .name) (c .size) (32 - c .size) ⌝ }
-{
-    let name = c.name;
-    let size = c.size;
-    let mut clear = true;
-    let mut k: u8 = 0;
-    while k < 32 {
-        clear = clear & ((k < size) | (name[k as usize] == 0));
-        k += 1;
-    }
-    clear
-}
-
-// What requests A6 and A7 will use.
-fn unused_clear(c: Call) -> bool
-    ensures { λ r. ⌜ r ≡ unusedClear c ⌝ }
-{
-    !c.made & (c.refreshed == 0) & (c.epoch == 0) & (c.identifier == 0)
-}
-
-// The bytes past the name of an open call, and its places that are not taken.
-fn call_free_clear(c: Call) -> bool
-    ensures { λ r. ⌜ r ≡ callFreeClear c ⌝ }
+// An end point stands beside a taken place.
+fn endpoints_clear(t: &Words, f: FourPlace) -> bool
+    requires { ⌜ Inside f ⌝ }
+    ensures { λ r. ⌜ r ≡ everyBelow (λ j. isTaken (placeAt (fourAtWord (now (t .entry)) f) j) || eqb (fourAtWord (now (t .entry)) f .endpoint j) 0) 4 ⌝ }
 {
     let mut clear = true;
     let mut j: usize = 0;
     while j < 4 {
-        let p = c.places[j];
-        clear = clear & (p.taken | place_clear(p));
-        j += 1;
-    }
-    unused_clear(c) & past_name_clear(c) & clear
-}
-
-// A free slot.
-fn call_clear(c: Call) -> bool
-    ensures { λ r. ⌜ r ≡ callClear c ⌝ }
-{
-    let name = c.name;
-    let mut clear = true;
-    let mut j: usize = 0;
-    while j < 4 {
-        let p = c.places[j];
-        clear = clear & place_clear(p);
-        j += 1;
-    }
-    unused_clear(c)
-        & (c.endpoint == 0)
-        & (c.sender == 0)
-        & (c.id.0 == 0)
-        & (c.size == 0)
-        & zeros(&name, 0, 32)
-        & clear
-}
-
-fn customer_free_clear(c: Customer) -> bool
-    ensures { λ r. ⌜ r ≡ customerFreeClear c ⌝ }
-{
-    let mut clear = true;
-    let mut j: usize = 0;
-    while j < 4 {
-        let p = c.places[j];
-        clear = clear & (p.taken | standalone_place_clear(p));
+        let p = place_words(t, f, j);
+        clear = clear & ((p.taken == 1) | (endpoint_at(t, f, j) == 0));
         j += 1;
     }
     clear
 }
 
-// An unused roster record.
-fn customer_clear(c: Customer) -> bool
-    ensures { λ r. ⌜ r ≡ customerClear c ⌝ }
+fn customer_free_clear(t: &Words, k: usize) -> bool
+    requires { ⌜ k < 8 ⌝ }
+    ensures { λ r. ⌜ r ≡ customerFreeClear (customerAt (tableOf (now (t .entry))) k) ⌝ }
 {
-    let mut clear = true;
-    let mut j: usize = 0;
-    while j < 4 {
-        let p = c.places[j];
-        clear = clear & standalone_place_clear(p);
-        j += 1;
-    }
-    (c.address == 0) & (c.guarantee == 0) & (c.limit == 0) & clear
+    let f = customer_four(t, k);
+    four_valid(t, f) & endpoints_clear(t, f)
 }
 
-fn slot_free_clear(used: bool, c: Call) -> bool
-    ensures { λ r. ⌜ r ≡ cond used (callFreeClear c) (callClear c) ⌝ }
+fn slot_free_clear(t: &Words, word: u64, i: usize) -> bool
+    requires { ⌜ i < total ⌝ }
+    ensures { λ r. ⌜ r ≡ cond (isUsed word i) (callFreeClear (callAt (tableOf (now (t .entry))) i)) (callClear (callAt (tableOf (now (t .entry))) i)) ⌝ }
 {
-    if used {
-        call_free_clear(c)
-    } else {
-        call_clear(c)
+    if is_used(word, i) {
+        return call_free_clear(t, i);
     }
+    call_clear(t, i)
 }
 
-fn record_free_clear(used: bool, c: Customer) -> bool
-    ensures { λ r. ⌜ r ≡ cond used (customerFreeClear c) (customerClear c) ⌝ }
+fn record_free_clear(t: &Words, listed: usize, k: usize) -> bool
+    requires { ⌜ k < 8 ⌝ }
+    ensures { λ r. ⌜ r ≡ cond (ltb k listed) (customerFreeClear (customerAt (tableOf (now (t .entry))) k)) (customerClear (customerAt (tableOf (now (t .entry))) k)) ⌝ }
 {
-    if used {
-        customer_free_clear(c)
-    } else {
-        customer_clear(c)
+    if k < listed {
+        return customer_free_clear(t, k);
     }
+    customer_clear(t, k)
 }
 
-fn slots_free_clear(t: Table) -> bool
-    ensures { λ r. ⌜ r ≡ everyBelow (slotFreeClear t) (totalOf t) ⌝ }
+fn slots_free_clear(t: &Words) -> bool
+    ensures { λ r. ⌜ r ≡ everyBelow (slotFreeClear (tableOf (now (t .entry)))) (totalOf (tableOf (now (t .entry)))) ⌝ }
 {
+    let word = occupied(t);
     let mut clear = true;
     let mut i: usize = 0;
     while i < SLOTS {
-        let c = t.calls[i];
-        clear = clear & slot_free_clear(is_used(t.occupied, i), c);
+        clear = clear & slot_free_clear(t, word, i);
         i += 1;
     }
     clear
 }
 
-fn records_free_clear(t: Table) -> bool
-    ensures { λ r. ⌜ r ≡ everyBelow (recordFreeClear t) 8 ⌝ }
+fn records_free_clear(t: &Words) -> bool
+    ensures { λ r. ⌜ r ≡ everyBelow (recordFreeClear (tableOf (now (t .entry)))) 8 ⌝ }
 {
-    let listed = t.listed as usize;
+    let listed = listed(t);
     let mut clear = true;
     let mut k: usize = 0;
     while k < 8 {
-        let c = t.customers[k];
-        clear = clear & record_free_clear(k < listed, c);
+        clear = clear & record_free_clear(t, listed, k);
         k += 1;
     }
     clear
 }
 
-pub fn free_holds_zeros(t: Table) -> bool
-    ensures { λ r. ⌜ r ≡ holds freeHoldsZeros t ⌝ }
+pub fn free_holds_zeros(t: &Words) -> bool
+    ensures { λ r. ⌜ r ≡ holds freeHoldsZeros (tableOf (now (t .entry))) ⌝ }
 {
     slots_free_clear(t) & records_free_clear(t)
 }

@@ -1,2 +1,3 @@
 pub mod Decided
 pub mod Ruled
+pub mod Names

@@ -15,7 +15,7 @@ use Rattle.replies.specs.declared.notify.Notify.{Notify}
 use Rattle.replies.specs.declared.path_err.PathErr.{PathErr}
 use Rattle.reply_objects.specs.declared.writers.ErrorSpec.{ErrorSpec}
 use Rattle.replies.specs.Messages.{notifyBytes, pathErrBytes}
-use Rattle.table.specs.declared.state.Table.{Table}
+use Rattle.table.specs.Table.{Table}
 use Rattle.table.specs.Total.{totalOf}
 use Rattle.table.specs.Lists.{roster, entries, held}
 use Rattle.table.specs.Rules.{rulesHold}

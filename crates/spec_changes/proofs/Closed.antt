@@ -4,25 +4,20 @@ use Prim.Native.Nat.{ℕ, _+_, _≤_, _<_}
 use native.Mathlib.Omega.{arith}
 use mathlib.Core.Path.{_≡_, refl, sym, _∙_}
 use mathlib.Core.Bool.{Bool, true, false}
-use Rattle.numbers.specs.Search.{zerosAt}
 use Rattle.lists.specs.Count.{bit, count}
-use Rattle.lists.specs.Below.{everyBelow}
-use Rattle.table.specs.declared.state.Table.{Table}
+use Rattle.table.specs.Table.{Table}
 use Rattle.table.specs.Total.{totalOf}
 use Rattle.table.specs.Word.{isUsed, flipped}
 use Rattle.table.specs.Zeros.{noCall}
 use Rattle.table.specs.Lists.{roster, Ids, Entry, callAt, idsOf, entries, Held, held}
-use Rattle.table.specs.Rules.{rosterHolds, sameLsp, placeClear, callClear}
+use Rattle.table.specs.Rules.{rosterHolds, sameLsp}
+use Rattle.table.proofs.Fresh.{free-clear}
 use Rattle.table.proofs.Slots.{flipped-used, flipped-other}
 use Rattle.spec_changes.specs.Shape.{Shape}
 use Rattle.spec_changes.specs.Calls.{isCall, slotOf, closed}
 use Rattle.spec_changes.proofs.Kept.{Kept, calls-fewer}
 use Rattle.spec_changes.proofs.Slot.{found-slot, slot-entries, slot-held, slot-names, slot-free-clear}
 use Rattle.spec_changes.proofs.Opened.{flipped-shape}
-
-free-clear : callClear noCall ≡ true
-unfolding noCall callClear zerosAt everyBelow placeClear
-free-clear = refl
 
 module _ (t : Table) (c : Ids) (s : Shape t) (h : 0 < count (isCall c) (entries t)) where
   abbrev slot : ℕ

@@ -1,14 +1,16 @@
--- Changes of connections: what they leave alone, and that no connection comes to stand twice.
+-- Changes of connections: one place of one four. What it leaves alone, what it does to the connections in every count,
+-- and that no connection comes to stand twice.
 -- Assumes nothing.
-use Prim.Native.Nat.{_+_, _≤_}
+use Prim.Native.Nat.{ℕ, _+_, _≤_, _<_}
 use native.Mathlib.Omega.{arith}
 use mathlib.Core.Path.{_≡_, refl}
 use mathlib.Core.List.{List}
 use mathlib.Core.Bool.{Bool, true, false}
 use Rattle.lists.specs.Count.{bit, count}
 use Rattle.lists.proofs.Count.{count-ext}
-use Rattle.table.specs.declared.state.Table.{Table}
-use Rattle.table.specs.Lists.{roster, Entry, entries, Held, held}
+use Rattle.lists.proofs.Below.{below-one}
+use Rattle.table.specs.Table.{Table}
+use Rattle.table.specs.Lists.{roster, Entry, entries, Held, Four, heldPlace, heldIn, held}
 use Rattle.table.specs.Rules.{sameLsp}
 use Rattle.spec_changes.specs.Shape.{Shape}
 use Rattle.spec_changes.proofs.Alike.{lsp-alike}
@@ -20,6 +22,18 @@ pub record SameCalls (t u : Table) : Type 0 where
   pub entries : (p : Entry → Bool) → count p (entries u) ≡ count p (entries t)
   pub shape : Shape u
   pub kept : Kept t → ((x : Held) → count (sameLsp x) (held u) ≤ 1) → Kept u
+
+-- one of t's fours, f, is g in u, and the two differ at most in place j
+pub record OnePlace (t u : Table) (f g : Four) (j : ℕ) : Type 0 where
+  pub same : SameCalls t u
+  pub within : (p : Held → Bool) → count p (heldIn f) ≤ count p (held t)
+  pub counts : (p : Held → Bool) → count p (held u) + count p (heldIn f) ≡ count p (held t) + count p (heldIn g)
+  pub other : (i : ℕ) → (i ≡ j → ⊥) → heldPlace g i ≡ heldPlace f i
+
+-- the connections, in every count
+pub place-held : (t u : Table) (f g : Four) (j : ℕ) → j < 4 → OnePlace t u f g j → (p : Held → Bool)
+    → count p (held u) + count p (heldPlace f j) ≡ count p (held t) + count p (heldPlace g j)
+place-held t u f g j four o p = omega (arith, o .counts p, below-one (heldPlace g) (heldPlace f) p j 4 four (λ i n. rw (o .other i n)))
 
 -- a new connection stands once
 pub once-more : (l k : List Held) (x : Held) → ((p : Held → Bool) → count p k ≡ bit (p x) + count p l) → count (sameLsp x) l ≡ 0

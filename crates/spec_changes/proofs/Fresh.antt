@@ -1,4 +1,4 @@
--- The table of a roster's bytes has the shape that its types say.
+-- The table of a roster's bytes has the shape of every table.
 -- Assumes nothing.
 use Prim.Native.Nat.{ℕ}
 use native.Mathlib.Omega.{arith}
@@ -8,7 +8,7 @@ use mathlib.Core.Bool.{Bool, true, false, cond}
 use lib.Dec.{ltb}
 use lib.ListN.{length, length-replicate, getD-replicate}
 use Rattle.lists.proofs.Below.{length-each, getD-each}
-use Rattle.table.specs.declared.state.Customer.{Customer}
+use Rattle.table.specs.Table.{Customer}
 use Rattle.table.specs.Total.{total}
 use Rattle.table.specs.Zeros.{noCall, noCustomer, pastCall, pastCustomer}
 use Rattle.table.specs.Roster.{customersIn, customerIn, customersFrom, freshTable}
@@ -18,13 +18,13 @@ use Rattle.spec_changes.specs.Shape.{Shape}
 abbrev recordAt : List ℕ → ℕ → Customer
 recordAt s k = cond (ltb k (customersIn s)) (customerIn s k) noCustomer
 
-four-places : (s : List ℕ) (k : ℕ) → length (recordAt s k .places) ≡ 4
+four-each : (s : List ℕ) (k : ℕ) → (length (recordAt s k .endpoints) ≡ 4) × (length (recordAt s k .places) ≡ 4)
 unfolding noCustomer
-four-places s k = by (ltb k (customersIn s))
+four-each s k = by (ltb k (customersIn s))
   where
-    by : (b : Bool) → length (cond b (customerIn s k) noCustomer .places) ≡ 4
-    by true = refl
-    by false = refl
+    by : (b : Bool) → (length (cond b (customerIn s k) noCustomer .endpoints) ≡ 4) × (length (cond b (customerIn s k) noCustomer .places) ≡ 4)
+    by true = (refl, refl)
+    by false = (refl, refl)
 
 pub fresh-shape : (s : List ℕ) → Shape (freshTable s)
 unfolding freshTable customersFrom noCall
@@ -33,5 +33,6 @@ fresh-shape s = record {
   customers = length-each (recordAt s) 8;
   word = omega arith;
   places = λ i h. rw (getD-replicate total i noCall pastCall h);
-  standalonePlaces = λ k h. rw (getD-each (recordAt s) 8 k pastCustomer h) (four-places s k);
+  endpoints = λ k h. rw (getD-each (recordAt s) 8 k pastCustomer h) (four-each s k .0);
+  standalonePlaces = λ k h. rw (getD-each (recordAt s) 8 k pastCustomer h) (four-each s k .1);
 }

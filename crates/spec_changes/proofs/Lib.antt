@@ -1,8 +1,11 @@
 pub mod Alike
 pub mod Share
+pub mod Valid
 pub mod Kept
 pub mod Told
 pub mod Fresh
+pub mod Words
+pub mod Everywhere
 pub mod CallMissing
 pub mod Slot
 pub mod Opened

@@ -12,23 +12,24 @@ use lib.Pow.{pow-lt}
 use lib.Bits.{xor-lt}
 use lib.ListN.{length, getD, replicate, drop}
 use lib.Seq.{getD-append-add, getD-drop}
-use borrow.Author.Tests.{eq-eqb, ne-eqb, ltb-true, ltb-false, le-leb}
+use borrow.Author.Tests.{eq-eqb, ne-eqb, ltb-true, ltb-false}
 use Rattle.numbers.specs.Search.{zerosAt}
 use Rattle.numbers.specs.Buffer.{atFront}
 use Rattle.numbers.proofs.Buffer.{front-taken}
 use Rattle.lists.specs.Count.{bit, count}
 use Rattle.lists.specs.Below.{when, below, everyBelow}
 use Rattle.lists.proofs.Below.{count-when, below-ext, below-nothing, below-one, length-each}
-use Rattle.table.specs.declared.state.Call.{Call}
-use Rattle.table.specs.declared.state.Table.{Table}
+use Rattle.table.specs.Table.{Call, Table}
 use Rattle.table.specs.Total.{totalOf}
 use Rattle.table.specs.Word.{isUsed, lowestFree, flipped}
-use Rattle.table.specs.Lists.{roster, Ids, Entry, callAt, idsOf, openAt, entries, Held, heldIn, held}
+use Rattle.table.specs.Lists.{roster, Ids, Entry, callAt, idsOf, openAt, entries, Held, callFour, heldIn, held}
 use Rattle.table.specs.Share.{isAt}
-use Rattle.table.specs.Rules.{rosterHolds, validIds, sameLsp, placeClear, callFreeClear}
+use Rattle.table.specs.Rules.{rosterHolds, validIds, sameLsp, placeClear, placeValid, callFreeClear}
+use Rattle.table.specs.Stores.{withSlot}
 use Rattle.table.proofs.Slots.{lowest-below, lowest-here, flipped-free, flipped-other}
 use Rattle.spec_changes.specs.Shape.{Shape}
-use Rattle.spec_changes.specs.Calls.{withSlot, stored, opened}
+use Rattle.spec_changes.specs.Calls.{stored, opened}
+use Rattle.spec_changes.proofs.Valid.{named-ids}
 use Rattle.spec_changes.proofs.Kept.{Kept, MayOpen, room-for, calls-open}
 use Rattle.spec_changes.proofs.Slot.{slot-entries, slot-held, slot-names, slot-free-clear, slot-shape}
 
@@ -97,14 +98,10 @@ zeros-behind x i (suc n) =
     (zeros-behind x (i + 1) n)
 
 stored-free-clear : (c : Ids) → callFreeClear (stored c) ≡ true
-unfolding callFreeClear everyBelow placeClear
+unfolding callFreeClear everyBelow placeClear placeValid
 stored-free-clear c = rw (rw add-zero at (zeros-behind (c .long) 0 (32 - length (c .long))))
 
-stored-names : (c : Ids) → 0 < c .short → 0 < length (c .long) → length (c .long) ≤ 32 → validIds (stored c) ≡ true
-unfolding validIds
-stored-names c a b d = rw (ne-eqb (c .short) 0 (omega arith), ne-eqb (length (c .long)) 0 (omega arith), le-leb (length (c .long)) 32 d)
-
-none-under : (c : Ids) → heldIn (stored c) ≡ []
+none-under : (c : Ids) → heldIn (callFour (stored c)) ≡ []
 unfolding below when
 none-under c = refl
 
@@ -154,6 +151,6 @@ module _ (t : Table) (c : Ids) (s : Shape t) (free : lowestFree (t .occupied) < 
 
 -- every rule
 pub opened-kept : (t : Table) (c : Ids) → Shape t → Kept t → MayOpen (totalOf t) (roster t) (entries t) c → ((a : ℕ) → count (isAt a) (roster t) ≤ 1)
-    → 0 < c .short → 0 < length (c .long) → length (c .long) ≤ 32 → Kept (opened t c)
-opened-kept t c s k m d short some few =
-    keeps t c s (free-slot t (s .word) (room-for (totalOf t) (roster t) (entries t) c (k .calls) m)) k m d (stored-names c short some few)
+    → 0 < c .short → c .short < 0x10000 → 0 < length (c .long) → length (c .long) ≤ 32 → Kept (opened t c)
+opened-kept t c s k m d short fits some few =
+    keeps t c s (free-slot t (s .word) (room-for (totalOf t) (roster t) (entries t) c (k .calls) m)) k m d (named-ids (stored c) (record { some = short; fits = fits; long = some; most = few }))

@@ -1,21 +1,26 @@
--- Places in a row, each taken or free: one of them changed, a free one found, and the one found that holds what passes
--- a test; and rows of them.
+-- A four, place by place: one place changed, a free one found, and the one found that holds what passes a test; and rows
+-- of lists, of which some are in use.
 -- Assumes nothing.
-use Prim.Native.Nat.{ℕ, zero, suc, _+_, _≤_, _<_}
+use Prim.Native.Nat.{ℕ, zero, suc, _≤_, _<_}
 use native.Mathlib.Omega.{arith}
 use mathlib.Core.Path.{_≡_, refl, sym, _∙_}
 use mathlib.Core.List.{List}
-use mathlib.Core.Bool.{Bool, true, false, not, _&&_, _||_}
+use mathlib.Core.Bool.{Bool, true, false, not}
 use lib.Dec.{eqb}
 use lib.ListN.{length, getD, set}
 use lib.Seq.{getD-set-same, getD-set-other}
 use borrow.Author.Tests.{eqb-true, eqb-false}
-use Rattle.lists.specs.Count.{bit, count, has}
-use Rattle.lists.specs.Below.{when, listIf, below, everyBelow, firstBelow, placeOf}
+use Rattle.lists.specs.Count.{count, has}
+use Rattle.lists.specs.Below.{listIf, below, everyBelow, firstBelow, placeOf}
 use Rattle.lists.proofs.Tests.{both}
 use Rattle.lists.proofs.Count.{has-true}
-use Rattle.lists.proofs.Below.{count-when, has-when, has-list-if, count-at, count-below, below-one, every-within, every-at}
+use Rattle.lists.proofs.Below.{count-when, has-when, has-list-if, count-at, count-below, every-within, every-at}
 use Rattle.lists.proofs.Search.{Found, first-found, place-found}
+use Rattle.table.specs.Table.{Place}
+use Rattle.table.specs.Zeros.{noPlace}
+use Rattle.table.specs.Lists.{Held, Four, placeAt, isTaken, connectionAt, heldPlace, heldIn}
+use Rattle.table.specs.Rules.{sameLsp, placeValid}
+use Rattle.spec_changes.specs.Connections.{freePlace, placeWith}
 
 -- what holds of the new element, and of the old one at an index, holds at that index after the change
 pub set-holds {ℓ} : {P : Type 0} (holds : P → Type ℓ) (l : List P) (j i : ℕ) (q d : P) → i < length l → (i ≡ j → holds q) → holds (getD l i d)
@@ -26,53 +31,40 @@ set-holds holds l j i q d h new old = by (eqb i j) refl
     by true e = let s : i ≡ j = eqb-true i j e in rw (s, getD-set-same l j q d (omega arith)) (new s)
     by false e = rw (getD-set-other l j i q d (eqb-false i j e)) old
 
-module _ {P A : Type 0} (none : P) (taken : P → Bool) (shown : P → A) where
-  -- what a place holds
-  abbrev spot : List P → ℕ → List A
-  spot l j = when (taken (getD l j none)) (shown (getD l j none))
+-- every place is valid, as before
+pub places-valid : (l : List Place) (j : ℕ) (q : Place) → length l ≡ 4 → placeValid q ≡ true → everyBelow (λ i. placeValid (getD l i noPlace)) 4 ≡ true
+    → everyBelow (λ i. placeValid (getD (set l j q) i noPlace)) 4 ≡ true
+places-valid l j q four new old =
+    every-within _ 4 (λ i h. set-holds (λ x. placeValid x ≡ true) l j i q noPlace (omega arith) (λ e. new) (every-at _ 4 old i h))
 
-  pub place-count : (p : A → Bool) (l : List P) (j n : ℕ) (q : P) → j < n → n ≤ length l
-      → count p (below (spot (set l j q)) n) + bit (taken (getD l j none) && p (shown (getD l j none))) ≡ count p (below (spot l) n) + bit (taken q && p (shown q))
-  place-count p l j n q h m =
-      let new : count p (spot (set l j q) j) ≡ bit (taken q && p (shown q)) = rw (getD-set-same l j q none (omega arith)) (count-when p (taken q) (shown q)) in
-      omega (
-        arith,
-        below-one (spot (set l j q)) (spot l) p j n h (λ i d. rw (getD-set-other l j i q none d)),
-        count-when p (taken (getD l j none)) (shown (getD l j none)),
-      )
+module _ (f : Four) where
+  abbrev free : ℕ → Bool
+  free j = not (isTaken (placeAt f j))
 
-  -- every place is taken or clear, as before
-  pub places-free-clear : (clear : P → Bool) (l : List P) (j n : ℕ) (q : P) → n ≤ length l → (taken q || clear q) ≡ true
-      → everyBelow (λ i. taken (getD l i none) || clear (getD l i none)) n ≡ true
-      → everyBelow (λ i. taken (getD (set l j q) i none) || clear (getD (set l j q) i none)) n ≡ true
-  places-free-clear clear l j n q m new old =
-      every-within _ n (λ i h. set-holds (λ x. (taken x || clear x) ≡ true) l j i q none (omega arith) (λ e. new) (every-at _ n old i h))
-
-  -- where all that the places hold pass a test and fewer pass than there are places, the first free place is free
-  pub free-found : (p : A → Bool) (l : List P) (n : ℕ) → ((x : P) → p (shown x) ≡ true) → count p (below (spot l) n) < n
-      → Found (λ j. not (taken (getD l j none))) n (firstBelow (λ j. not (taken (getD l j none))) n)
-  free-found p l zero f h = let z : ⊥ = omega arith in absurd z
-  free-found p l (suc n) f h = by (taken (getD l n none)) refl (free-found p l n f)
+  free-among : (p : Held → Bool) → ((j : ℕ) → p (connectionAt f j) ≡ true) → (n : ℕ) → count p (below (heldPlace f) n) < n → Found free n (firstBelow free n)
+  free-among p all zero h = let z : ⊥ = omega arith in absurd z
+  free-among p all (suc n) h = by (isTaken (placeAt f n)) refl (free-among p all n)
     where
-      free : ℕ → Bool
-      free j = not (taken (getD l j none))
-
-      by : (b : Bool) → taken (getD l n none) ≡ b → (count p (below (spot l) n) < n → Found free n (firstBelow free n))
+      by : (b : Bool) → isTaken (placeAt f n) ≡ b → (count p (below (heldPlace f) n) < n → Found free n (firstBelow free n))
           → Found free (suc n) (firstBelow free (suc n))
       by true e i =
-          let one : count p (spot l n) ≡ 1 = rw (count-when p (taken (getD l n none)) (shown (getD l n none)), e, f (getD l n none)) in
-          let k = i (omega (arith, count-below (spot l) p n)) in
+          let one : count p (heldPlace f n) ≡ 1 = rw (count-when p (isTaken (placeAt f n)) (connectionAt f n), e, all n) in
+          let k = i (omega (arith, count-below (heldPlace f) p n)) in
           first-found free (suc n) (firstBelow free n) (omega (arith, k .inside)) (k .passes)
       by false e i = first-found free (suc n) n (omega arith) (rw e)
 
-  -- where something passes, the first place that holds something which passes is taken, and what it holds passes
-  pub found-place : (p : A → Bool) (l : List P) (n : ℕ) → 0 < count p (below (spot l) n)
-      → (placeOf (spot l) p n < n) × (taken (getD l (placeOf (spot l) p n) none) ≡ true) × (p (shown (getD l (placeOf (spot l) p n) none)) ≡ true)
-  found-place p l n h =
-      let f = place-found (spot l) p n h in
-      let x = getD l (placeOf (spot l) p n) none in
-      let k = both (taken x) (p (shown x)) (sym (has-when p (taken x) (shown x)) ∙ f .passes) in
-      (f .inside, k .0, k .1)
+  -- where all that the places hold pass a test and fewer than four pass, the first free place is free
+  pub free-found : (p : Held → Bool) → ((j : ℕ) → p (connectionAt f j) ≡ true) → count p (heldIn f) < 4 → Found (λ j. not (isTaken (placeAt f j))) 4 (freePlace f)
+  free-found p all h = free-among p all 4 h
+
+  -- where a connection is held, the place found is taken, and what it holds is that connection
+  pub found-place : (x : Held) → 0 < count (sameLsp x) (heldIn f)
+      → (placeWith f x < 4) × (isTaken (placeAt f (placeWith f x)) ≡ true) × (sameLsp x (connectionAt f (placeWith f x)) ≡ true)
+  found-place x h =
+      let j = placeWith f x in
+      let g = place-found (heldPlace f) (sameLsp x) 4 h in
+      let k = both (isTaken (placeAt f j)) (sameLsp x (connectionAt f j)) (sym (has-when (sameLsp x) (isTaken (placeAt f j)) (connectionAt f j)) ∙ g .passes) in
+      (g .inside, k .0, k .1)
 
 -- rows, of which some are in use
 module _ {A : Type 0} (p : A → Bool) (used : ℕ → Bool) (row : ℕ → List A) (n : ℕ) where

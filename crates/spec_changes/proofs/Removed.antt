@@ -3,25 +3,28 @@
 -- Assumes nothing.
 use Prim.Native.Nat.{_+_, _<_}
 use native.Mathlib.Omega.{arith}
-use mathlib.Core.Path.{_≡_, refl, ap}
+use mathlib.Core.Path.{_≡_, refl, ap, _∙_}
 use mathlib.Core.Bool.{Bool, true, false, cond, _&&_}
 use lib.Dec.{ltb}
+use lib.Seq.{getD-set-same}
 use Rattle.lists.specs.Count.{bit, count, has}
 use Rattle.lists.specs.Below.{below, placeOf}
 use Rattle.lists.proofs.Count.{has-true, has-false, count-append}
-use Rattle.table.specs.declared.state.Table.{Table}
+use Rattle.lists.proofs.Below.{count-when}
+use Rattle.table.specs.Table.{Table}
 use Rattle.table.specs.Total.{totalOf}
 use Rattle.table.specs.Word.{isUsed}
-use Rattle.table.specs.Zeros.{noPlace, noStandalonePlace}
-use Rattle.table.specs.Lists.{customerAt, roster, Entry, callAt, entries, Held, underCall, placeAt, heldIn, heldAt, withNoCall, standalonePlaceAt, standaloneIn, standaloneAt, held}
-use Rattle.table.specs.Rules.{sameLsp, placeClear, standalonePlaceClear}
+use Rattle.table.specs.Zeros.{noPlace}
+use Rattle.table.specs.Lists.{customerAt, roster, Entry, callAt, entries, Held, Four, callFour, customerFour, placeAt, isTaken, connectionAt, heldIn, heldAt, standaloneAt, held}
+use Rattle.table.specs.Rules.{sameLsp, placeClear, placeValid}
+use Rattle.table.specs.Stores.{withPlace, withStandalonePlace}
 use Rattle.spec_changes.specs.Shape.{Shape}
-use Rattle.spec_changes.specs.Connections.{placeWith, removedUnder, standalonePlaceWith, removedStandalone, removed}
+use Rattle.spec_changes.specs.Connections.{placeWith, removedUnder, removedStandalone, removed}
 use Rattle.spec_changes.proofs.Kept.{Kept}
 use Rattle.spec_changes.proofs.Places.{found-place, found-row}
-use Rattle.spec_changes.proofs.Connections.{SameCalls}
-use Rattle.spec_changes.proofs.Standalone.{standalone-held, standalone-same}
-use Rattle.spec_changes.proofs.Under.{under-held, under-same}
+use Rattle.spec_changes.proofs.Connections.{SameCalls, OnePlace, place-held}
+use Rattle.spec_changes.proofs.Standalone.{standalone-place}
+use Rattle.spec_changes.proofs.Under.{under-place}
 
 -- what a removal takes out, and what stays
 record Removes (t u : Table) (x : Held) : Type 0 where
@@ -30,14 +33,28 @@ record Removes (t u : Table) (x : Held) : Type 0 where
   pub same : sameLsp x gone ≡ true
   pub counts : (p : Held → Bool) → count p (held t) ≡ bit (p gone) + count p (held u)
 
--- what is free holds zeros
-clear : placeClear noPlace ≡ true
-unfolding placeClear
-clear = refl
+-- a place that was taken and holds nothing afterwards
+removes-in : (t u : Table) (x : Held) (f g : Four) → OnePlace t u f g (placeWith f x) → 0 < count (sameLsp x) (heldIn f)
+    → (placeWith f x < 4 → isTaken (placeAt g (placeWith f x)) ≡ false) → Removes t u x
+removes-in t u x f g o some free =
+    let j = placeWith f x in
+    let k = found-place f x some in
+    record {
+      rest = o .same;
+      gone = connectionAt f j;
+      same = k .2;
+      counts = λ p. omega (
+        arith,
+        place-held t u f g j (k .0) o p,
+        count-when p (isTaken (placeAt f j)) (connectionAt f j) ∙ ap (λ b. bit (b && p (connectionAt f j))) (k .1),
+        count-when p (isTaken (placeAt g j)) (connectionAt g j) ∙ ap (λ b. bit (b && p (connectionAt g j))) (free (k .0)),
+      );
+    }
 
-standalone-clear : standalonePlaceClear noStandalonePlace ≡ true
-unfolding standalonePlaceClear
-standalone-clear = refl
+-- what is free holds zeros
+valid : placeValid noPlace ≡ true
+unfolding placeValid placeClear
+valid = refl
 
 module _ (t : Table) (x : Held) (s : Shape t) where
   removes-under : 0 < count (sameLsp x) (below (heldAt t) (totalOf t)) → Removes t (removedUnder t (placeOf (heldAt t) (sameLsp x) (totalOf t)) x) x
@@ -45,30 +62,20 @@ module _ (t : Table) (x : Held) (s : Shape t) where
   removes-under h =
       let i = placeOf (heldAt t) (sameLsp x) (totalOf t) in
       let c = callAt t i in
-      let j = placeWith c x in
-      let f = found-row (sameLsp x) (isUsed (t .occupied)) (λ i. heldIn (callAt t i)) (totalOf t) h in
-      let g = found-place noPlace (λ y. y .taken) (underCall c) (sameLsp x) (c .places) 4 (f .2) in
-      record {
-        rest = under-same t s i j noPlace (f .0) (f .1) (g .0) clear;
-        gone = underCall c (placeAt c j);
-        same = g .2;
-        counts = λ p. omega (arith, under-held t s i j noPlace (f .0) (f .1) (g .0) p, ap (λ b. bit (b && p (underCall c (placeAt c j)))) (g .1));
-      }
+      let j = placeWith (callFour c) x in
+      let f = found-row (sameLsp x) (isUsed (t .occupied)) (λ i. heldIn (callFour (callAt t i))) (totalOf t) h in
+      removes-in t _ x (callFour c) (callFour (withPlace c j noPlace)) (under-place t s i j noPlace (f .0) (f .1) valid) (f .2)
+      (λ l. rw (getD-set-same (c .places) j noPlace noPlace (omega (arith, s .places i (f .0)))))
 
   removes-standalone : 0 < count (sameLsp x) (below (standaloneAt t) 8) → Removes t (removedStandalone t (placeOf (standaloneAt t) (sameLsp x) 8) x) x
   unfolding removedStandalone
   removes-standalone h =
       let k = placeOf (standaloneAt t) (sameLsp x) 8 in
       let c = customerAt t k in
-      let j = standalonePlaceWith c x in
-      let f = found-row (sameLsp x) (λ i. ltb i (t .listed)) (λ i. standaloneIn (customerAt t i)) 8 h in
-      let g = found-place noStandalonePlace (λ y. y .taken) (withNoCall c) (sameLsp x) (c .places) 4 (f .2) in
-      record {
-        rest = standalone-same t s k j noStandalonePlace (f .0) (f .1) (g .0) standalone-clear;
-        gone = withNoCall c (standalonePlaceAt c j);
-        same = g .2;
-        counts = λ p. omega (arith, standalone-held t s k j noStandalonePlace (f .0) (f .1) (g .0) p, ap (λ b. bit (b && p (withNoCall c (standalonePlaceAt c j)))) (g .1));
-      }
+      let j = placeWith (customerFour c) x in
+      let f = found-row (sameLsp x) (λ i. ltb i (t .listed)) (λ i. heldIn (customerFour (customerAt t i))) 8 h in
+      removes-in t _ x (customerFour c) (customerFour (withStandalonePlace c j 0 noPlace)) (standalone-place t s k j 0 noPlace (f .0) (f .1) valid refl) (f .2)
+      (λ l. rw (getD-set-same (c .places) j noPlace noPlace (omega (arith, s .standalonePlaces k (f .0)))))
 
 module _ (t : Table) (x : Held) (s : Shape t) (h : 0 < count (sameLsp x) (held t)) where
   removes : Removes t (removed t x) x

@@ -15,15 +15,15 @@ use Rattle.lists.proofs.Tests.{both}
 use Rattle.lists.proofs.Count.{count-append}
 use Rattle.lists.proofs.Below.{count-when, count-list-if, has-when, below-one}
 use Rattle.lists.proofs.Search.{place-found}
-use Rattle.table.specs.declared.state.Call.{Call}
-use Rattle.table.specs.declared.state.Table.{Table}
+use Rattle.table.specs.Table.{Call, Table}
 use Rattle.table.specs.Total.{totalOf}
 use Rattle.table.specs.Word.{isUsed}
 use Rattle.table.specs.Zeros.{pastCall}
-use Rattle.table.specs.Lists.{Entry, callAt, idsOf, openAt, entries, Held, heldIn, heldAt, standaloneAt, held}
+use Rattle.table.specs.Lists.{Entry, callAt, idsOf, openAt, entries, Held, callFour, heldIn, heldAt, standaloneAt, held}
 use Rattle.table.specs.Rules.{validIds, callFreeClear, callClear, slotFreeClear}
+use Rattle.table.specs.Stores.{withSlot}
 use Rattle.spec_changes.specs.Shape.{Shape}
-use Rattle.spec_changes.specs.Calls.{withSlot, slotOf}
+use Rattle.spec_changes.specs.Calls.{slotOf}
 
 when-most {ℓ} : {A : Type ℓ} (b : Bool) (x : A) → length (when b x) ≤ 1
 unfolding when
@@ -73,6 +73,7 @@ module _ (t : Table) (word i : ℕ) (c : Call) (inside : i < totalOf t) (long : 
     customers = s .customers;
     word = w;
     places = by-slot (λ j d. length (d .places) ≡ 4) p (λ j l n. s .places j l);
+    endpoints = s .endpoints;
     standalonePlaces = s .standalonePlaces;
   }
 
@@ -92,16 +93,16 @@ module _ (t : Table) (word i : ℕ) (c : Call) (inside : i < totalOf t) (long : 
         )
 
     pub slot-held : (p : Held → Bool)
-        → count p (held (withSlot t word i c)) + cond (isUsed (t .occupied) i) (count p (heldIn (callAt t i))) 0
-        ≡ count p (held t) + cond (isUsed word i) (count p (heldIn c)) 0
+        → count p (held (withSlot t word i c)) + cond (isUsed (t .occupied) i) (count p (heldIn (callFour (callAt t i)))) 0
+        ≡ count p (held t) + cond (isUsed word i) (count p (heldIn (callFour c))) 0
     slot-held p =
         omega (
           arith,
           count-append p (below (heldAt (withSlot t word i c)) (totalOf t)) (below (standaloneAt t) 8),
           count-append p (below (heldAt t) (totalOf t)) (below (standaloneAt t) 8),
           below-one (heldAt (withSlot t word i c)) (heldAt t) p i (totalOf t) inside (λ j n. rw (other j n, call-other j n)),
-          count-list-if p (isUsed (t .occupied) i) (heldIn (callAt t i)),
-          count-list-if p (isUsed word i) (heldIn (callAt (withSlot t word i c) i)) ∙ ap (λ d. cond (isUsed word i) (count p (heldIn d)) 0) call-here,
+          count-list-if p (isUsed (t .occupied) i) (heldIn (callFour (callAt t i))),
+          count-list-if p (isUsed word i) (heldIn (callFour (callAt (withSlot t word i c) i))) ∙ ap (λ d. cond (isUsed word i) (count p (heldIn (callFour d))) 0) call-here,
         )
 
     pub slot-names : ((j : ℕ) → j < totalOf t → isUsed (t .occupied) j ≡ true → validIds (callAt t j) ≡ true) → (isUsed word i ≡ true → validIds c ≡ true)

@@ -6,13 +6,14 @@ use mathlib.Core.Bool.{true, false}
 use lib.Dec.{eqb}
 use Rattle.lists.specs.Count.{has}
 use Rattle.lists.specs.Below.{below, placeOf}
-use Rattle.table.specs.declared.state.Table.{Table}
+use Rattle.table.specs.Table.{Table}
 use Rattle.table.specs.Total.{totalOf}
 use Rattle.table.specs.Word.{flipped}
 use Rattle.table.specs.Zeros.{noCall}
 use Rattle.table.specs.Lists.{Ids, Held, heldAt, standaloneAt}
 use Rattle.table.specs.Rules.{sameLsp}
-use Rattle.spec_changes.specs.Calls.{withSlot, isCall, slotOf, closed}
+use Rattle.table.specs.Stores.{withSlot}
+use Rattle.spec_changes.specs.Calls.{isCall, slotOf, closed}
 use Rattle.spec_changes.specs.Connections.{isCallOf, addedUnder, removedUnder, addedStandalone, removedStandalone, customerOf, added, removed}
 
 pub closed-is : (t : Table) (c : Ids) (slot : ℕ) → slot ≡ slotOf t (isCall c) → withSlot t (flipped (t .occupied) slot) slot noCall ≡ closed t c

@@ -13,7 +13,7 @@ use Rattle.lists.proofs.Tests.{both}
 use Rattle.lists.proofs.Count.{has-true, has-false, true-has, false-has}
 use Rattle.lists.proofs.Below.{below-nothing, every-at, every-within}
 use Rattle.lists.proofs.Once.{no-two-once, once-no-two}
-use Rattle.table.specs.declared.state.Table.{Table}
+use Rattle.table.specs.Table.{Table}
 use Rattle.table.specs.Total.{totalOf}
 use Rattle.table.specs.Word.{isUsed}
 use Rattle.table.specs.Lists.{Terms, listedAt, roster, Entry, callAt, entries, Held, held}

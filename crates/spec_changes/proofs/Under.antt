@@ -1,32 +1,31 @@
--- What a change of one of a call's places does: to the connections under calls, and that it leaves roster and calls
--- alone.
+-- A change of one place of a call's four is the change of one place, and leaves roster and calls alone.
 -- Assumes nothing.
-use Prim.Native.Nat.{ℕ, _+_, _-_, _<_}
+use Prim.Native.Nat.{ℕ, _-_, _<_}
 use native.Mathlib.Omega.{arith}
 use mathlib.Core.Path.{_≡_, refl, _∙_}
-use mathlib.Core.Bool.{Bool, true, _&&_, _||_}
+use mathlib.Core.Bool.{Bool, true, _&&_}
 use lib.ListN.{length-set}
+use lib.Seq.{getD-set-other}
 use Rattle.numbers.specs.Search.{zerosAt}
-use Rattle.lists.specs.Count.{bit, count}
+use Rattle.lists.specs.Count.{count}
+use Rattle.lists.specs.Below.{below}
 use Rattle.lists.proofs.Tests.{both}
-use Rattle.table.specs.declared.state.Place.{Place}
-use Rattle.table.specs.declared.state.Call.{Call}
-use Rattle.table.specs.declared.state.Table.{Table}
+use Rattle.lists.proofs.Count.{count-append}
+use Rattle.table.specs.Table.{Place, Call, Table}
 use Rattle.table.specs.Total.{totalOf}
 use Rattle.table.specs.Word.{isUsed}
 use Rattle.table.specs.Zeros.{noPlace}
-use Rattle.table.specs.Lists.{roster, Entry, callAt, entries, Held, underCall, placeAt, heldIn, held}
-use Rattle.table.specs.Rules.{rosterHolds, validIds, unusedClear, placeClear, callFreeClear}
+use Rattle.table.specs.Lists.{roster, Entry, callAt, entries, callFour, heldIn, heldAt, standaloneAt}
+use Rattle.table.specs.Rules.{rosterHolds, validIds, unusedClear, placeValid, callFreeClear}
+use Rattle.table.specs.Stores.{withSlot, withPlace}
 use Rattle.spec_changes.specs.Shape.{Shape}
-use Rattle.spec_changes.specs.Calls.{withSlot}
-use Rattle.spec_changes.specs.Connections.{withPlace}
 use Rattle.spec_changes.proofs.Kept.{calls-fewer}
 use Rattle.spec_changes.proofs.Slot.{slot-shape, slot-entries, slot-held, slot-names, slot-free-clear}
-use Rattle.spec_changes.proofs.Places.{place-count, places-free-clear}
-use Rattle.spec_changes.proofs.Connections.{SameCalls}
+use Rattle.spec_changes.proofs.Places.{places-valid, row-within}
+use Rattle.spec_changes.proofs.Connections.{SameCalls, OnePlace}
 
 -- place j of the call in slot i, which is used, has q in the table u
-module _ (t : Table) (s : Shape t) (i j : ℕ) (q : Place) (inside : i < totalOf t) (used : isUsed (t .occupied) i ≡ true) (four : j < 4) where
+module _ (t : Table) (s : Shape t) (i j : ℕ) (q : Place) (inside : i < totalOf t) (used : isUsed (t .occupied) i ≡ true) where
   abbrev c : Call
   c = callAt t i
 
@@ -36,29 +35,20 @@ module _ (t : Table) (s : Shape t) (i j : ℕ) (q : Place) (inside : i < totalOf
   abbrev u : Table
   u = withSlot t (t .occupied) i d
 
-  -- the connections, in every count
-  pub under-held : (p : Held → Bool)
-      → count p (held u) + bit (placeAt c j .taken && p (underCall c (placeAt c j))) ≡ count p (held t) + bit (q .taken && p (underCall c q))
-  under-held p =
-      let h : count p (held u) + count p (heldIn c) ≡ count p (held t) + count p (heldIn d) =
-      rw used at (slot-held t (t .occupied) i d inside (s .calls) (λ m n. refl) p) in
-      omega (arith, place-count noPlace (λ x. x .taken) (underCall c) p (c .places) j 4 q four (omega (arith, s .places i inside)))
-
   under-entries : (p : Entry → Bool) → count p (entries u) ≡ count p (entries t)
   under-entries p = omega (arith, slot-entries t (t .occupied) i d inside (s .calls) (λ m n. refl) p)
 
-  under-free-clear : (q .taken || placeClear q) ≡ true → callFreeClear c ≡ true → callFreeClear d ≡ true
+  under-free-clear : placeValid q ≡ true → callFreeClear c ≡ true → callFreeClear d ≡ true
   unfolding callFreeClear
   under-free-clear new old =
       let k = both (unusedClear c && zerosAt (c .name) (c .size) (32 - c .size)) _ old in
-      rw (k .0) (places-free-clear noPlace (λ x. x .taken) (underCall c) placeClear (c .places) j 4 q (omega (arith, s .places i inside)) new (k .1))
+      rw (k .0) (places-valid (c .places) j q (s .places i inside) new (k .1))
 
   under-names : validIds c ≡ true → validIds d ≡ true
   unfolding validIds
   under-names h = h
 
-  -- all else, where the place is taken or clear
-  pub under-same : (q .taken || placeClear q) ≡ true → SameCalls t u
+  under-same : placeValid q ≡ true → SameCalls t u
   unfolding rosterHolds
   under-same new = record {
     roster = refl;
@@ -72,4 +62,16 @@ module _ (t : Table) (s : Shape t) (i j : ℕ) (q : Place) (inside : i < totalOf
       slots = slot-free-clear t (t .occupied) i d inside (s .calls) (λ m n. refl) (k .slots) (rw used (under-free-clear new (rw used at (k .slots i inside))));
       records = k .records;
     };
+  }
+
+  pub under-place : placeValid q ≡ true → OnePlace t (withSlot t (t .occupied) i (withPlace (callAt t i) j q)) (callFour (callAt t i)) (callFour (withPlace (callAt t i) j q)) j
+  under-place new = record {
+    same = under-same new;
+    within = λ p. omega (
+      arith,
+      count-append p (below (heldAt t) (totalOf t)) (below (standaloneAt t) 8),
+      row-within p (isUsed (t .occupied)) (λ i. heldIn (callFour (callAt t i))) (totalOf t) i inside used,
+    );
+    counts = λ p. rw used at (slot-held t (t .occupied) i d inside (s .calls) (λ m n. refl) p);
+    other = λ m n. rw (getD-set-other (c .places) j m q noPlace n);
   }

@@ -1,29 +1,17 @@
 -- The table with a call opened, closed; and with the next own identifier taken.
 use Prim.Native.Nat.{ℕ}
-use mathlib.Core.Bool.{Bool, false, _&&_}
-use lib.ListN.{length, set, replicate}
+use mathlib.Core.Bool.{Bool, _&&_}
+use lib.ListN.{length, replicate}
 use Rattle.numbers.specs.Buffer.{atFront}
 use Rattle.lists.specs.Below.{placeOf}
-use Rattle.table.specs.declared.state.Call.{Call}
-use Rattle.table.specs.declared.state.Table.{Table}
+use Rattle.table.specs.Table.{Call, Table}
 use Rattle.table.specs.Total.{totalOf}
 use Rattle.table.specs.Identifier.{identifierAfter}
 use Rattle.table.specs.Word.{lowestFree, flipped}
 use Rattle.table.specs.Zeros.{noPlace, noCall}
 use Rattle.table.specs.Lists.{Ids, Entry, openAt}
 use Rattle.table.specs.Rules.{sameShort, sameLong}
-
--- another call in a slot, and the occupancy word beside it
-abbrev pub withSlot : Table → ℕ → ℕ → Call → Table
-withSlot t word i c = record {
-  address = t .address;
-  epoch = t .epoch;
-  next = t .next;
-  listed = t .listed;
-  occupied = word;
-  customers = t .customers;
-  calls = set (t .calls) i c;
-}
+use Rattle.table.specs.Stores.{withSlot, withNext}
 
 -- a call as a slot holds it (01, Share: name bytes past the length, and free places, hold zeros)
 abbrev pub stored : Ids → Call
@@ -33,8 +21,8 @@ stored c = record {
   refreshed = 0;
   epoch = 0;
   identifier = 0;
-  id = record { 0 = c .short };
-  made = false;
+  id = c .short;
+  made = 0;
   size = length (c .long);
   name = atFront (c .long) (replicate 32 0);
   places = replicate 4 noPlace;
@@ -57,12 +45,4 @@ closed t c = withSlot t (flipped (t .occupied) (slotOf t (isCall c))) (slotOf t 
 
 -- 01, Reply bytes: own identifiers rise by one a Notify sent
 abbrev pub identifierTaken : Table → Table
-identifierTaken t = record {
-  address = t .address;
-  epoch = t .epoch;
-  next = identifierAfter (t .next);
-  listed = t .listed;
-  occupied = t .occupied;
-  customers = t .customers;
-  calls = t .calls;
-}
+identifierTaken t = withNext t (identifierAfter (t .next))

@@ -1,8 +1,8 @@
--- What the types of the table's fields say: how long its arrays are, and that the occupancy word has 64 bits.
+-- What the table of any words has: how long its lists are, and that the occupancy word has 64 bits.
 use Prim.Native.Nat.{ℕ, _^_, _≤_, _<_}
 use mathlib.Core.Path.{_≡_}
 use lib.ListN.{length}
-use Rattle.table.specs.declared.state.Table.{Table}
+use Rattle.table.specs.Table.{Table}
 use Rattle.table.specs.Total.{totalOf}
 use Rattle.table.specs.Lists.{callAt, customerAt}
 
@@ -11,4 +11,5 @@ pub record Shape (t : Table) : Type 0 where
   pub customers : length (t .customers) ≡ 8
   pub word : t .occupied < 2 ^ 64
   pub places : (i : ℕ) → i < totalOf t → length (callAt t i .places) ≡ 4
+  pub endpoints : (k : ℕ) → k < 8 → length (customerAt t k .endpoints) ≡ 4
   pub standalonePlaces : (k : ℕ) → k < 8 → length (customerAt t k .places) ≡ 4

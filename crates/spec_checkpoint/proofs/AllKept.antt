@@ -14,18 +14,17 @@ use Rattle.lists.specs.Count.{bit, count}
 use Rattle.lists.specs.Below.{when, below}
 use Rattle.lists.proofs.Below.{count-below, count-at, every-within}
 use Rattle.lists.proofs.Count.{one-bit}
-use Rattle.table.specs.declared.state.Table.{Table}
+use Rattle.table.specs.Table.{Table}
 use Rattle.table.specs.Total.{totalOf}
 use Rattle.table.specs.Word.{isUsed}
-use Rattle.table.specs.Lists.{roster, idsOf, Entry, entries, Held, heldIn, held}
+use Rattle.table.specs.Lists.{roster, idsOf, Entry, entries, Held, callFour, heldIn, held}
 use Rattle.table.specs.Rules.{validIds, sameLong, callFreeClear}
 use Rattle.spec_changes.specs.Shape.{Shape}
 use Rattle.spec_changes.proofs.Alike.{long-self}
 use Rattle.spec_changes.proofs.Kept.{CallsKept, Kept, calls-fewer}
 use Rattle.spec_changes.proofs.Opened.{slot-used, flipped-shape}
 use Rattle.spec_changes.proofs.Told.{kept-rules}
-use Rattle.spec_checkpoint.specs.declared.record.Slotted.{Slotted}
-use Rattle.spec_checkpoint.specs.Layout.{callsIn, callRecord}
+use Rattle.spec_checkpoint.specs.Layout.{Slotted, callsIn, callRecord}
 use Rattle.spec_checkpoint.specs.Salvage.{placed, soundAlone, namedBy, goesBefore, keptByLongId, callFits, withCalls}
 use Rattle.spec_checkpoint.proofs.Part.{entryOf, placed-entries, placed-held, placed-kept}
 
@@ -71,7 +70,7 @@ module _ (t fresh : Table) (s : List ℕ) (k : Kept t) (c : Copied t s)
   abbrev f : ℕ → List Entry
   f i = entryOf (callRecord s i) ∷ []
 
-  none : (i : ℕ) → heldIn (callRecord s i .call) ≡ []
+  none : (i : ℕ) → heldIn (callFour (callRecord s i .call)) ≡ []
   unfolding below when
   none i = refl
 

@@ -13,49 +13,47 @@ use Rattle.lists.specs.Below.{below, firstBelow}
 use Rattle.lists.proofs.Count.{has-true}
 use Rattle.lists.proofs.Below.{getD-each}
 use Rattle.lists.proofs.Search.{place-found, first-least}
-use Rattle.table.specs.declared.state.Call.{Call}
-use Rattle.table.specs.declared.state.Customer.{Customer}
-use Rattle.table.specs.declared.state.Table.{Table}
+use Rattle.table.specs.Table.{Place, Call, Customer, Table}
 use Rattle.table.specs.Total.{total, totalOf}
 use Rattle.table.specs.Word.{flipped}
-use Rattle.table.specs.Zeros.{noPlace, noStandalonePlace, noCall, noCustomer, pastCall, pastCustomer}
-use Rattle.table.specs.Lists.{customerAt, listedAt, roster, callAt, placeAt, Held, standalonePlaceAt}
+use Rattle.table.specs.Zeros.{noPlace, noCall, noCustomer, pastCall, pastCustomer}
+use Rattle.table.specs.Lists.{customerAt, listedAt, roster, callAt, Held, callFour, customerFour, isTaken}
 use Rattle.table.specs.Share.{isAt}
 use Rattle.table.specs.Roster.{customersIn, customerIn, customersFrom, freshTable}
+use Rattle.table.specs.Stores.{withSlot, withCustomer, withPlace, withStandalonePlace}
 use Rattle.spec_changes.specs.Shape.{Shape}
-use Rattle.spec_changes.specs.Calls.{withSlot, slotOf}
-use Rattle.spec_changes.specs.Connections.{withPlace, placeFor, freePlace, isCallOf, addedUnder, withCustomer, withStandalonePlace, standalonePlaceFor, freeStandalonePlace, addedStandalone, customerOf, added}
+use Rattle.spec_changes.specs.Calls.{slotOf}
+use Rattle.spec_changes.specs.Connections.{placeFor, freePlace, isCallOf, addedUnder, addedStandalone, customerOf, added}
 use Rattle.spec_changes.proofs.Slot.{found-slot, call-here, call-other}
 use Rattle.spec_changes.proofs.Added.{MayAdd}
-use Rattle.spec_checkpoint.specs.declared.record.Slotted.{Slotted}
+use Rattle.spec_checkpoint.specs.Layout.{Slotted}
 use Rattle.spec_checkpoint.specs.Places.{InOrder, ClosedUp}
 use Rattle.spec_checkpoint.specs.Salvage.{placed}
 
 -- ---- four places in a list
 
-module _ {ℓ} {P : Type ℓ} (taken : P → Bool) (none : P) (free : taken none ≡ false) where
-  abbrev pub row : List P → ℕ → Bool
-  row l j = taken (getD l j none)
+abbrev row : List Place → ℕ → Bool
+row l j = isTaken (getD l j noPlace)
 
-  -- the lowest free place is taken next
-  pub order-set : (l : List P) (y : P) → length l ≡ 4 → taken y ≡ true → firstBelow (λ j. not (row l j)) 4 < 4 → InOrder (row l)
-      → InOrder (row (set l (firstBelow (λ j. not (row l j)) 4) y))
-  order-set l y w t inside o j h e = by (eqb j k) refl (eqb (suc j) k) refl
-    where
-      k : ℕ
-      k = firstBelow (λ j. not (row l j)) 4
+-- the lowest free place is taken next
+order-set : (l : List Place) (y : Place) → length l ≡ 4 → isTaken y ≡ true → firstBelow (λ j. not (row l j)) 4 < 4 → InOrder (row l)
+    → InOrder (row (set l (firstBelow (λ j. not (row l j)) 4) y))
+order-set l y w t inside o j h e = by (eqb j k) refl (eqb (suc j) k) refl
+  where
+    k : ℕ
+    k = firstBelow (λ j. not (row l j)) 4
 
-      other : (i : ℕ) → eqb i k ≡ false → row (set l k y) i ≡ row l i
-      other i q = ap taken (getD-set-other l k i y none (eqb-false i k q))
+    other : (i : ℕ) → eqb i k ≡ false → row (set l k y) i ≡ row l i
+    other i q = ap isTaken (getD-set-other l k i y noPlace (eqb-false i k q))
 
-      held : (b : Bool) → not b ≡ false → b ≡ true
-      held true q = refl
-      held false q = cc
+    held : (b : Bool) → not b ≡ false → b ≡ true
+    held true q = refl
+    held false q = cc
 
-      by : (a : Bool) → eqb j k ≡ a → (b : Bool) → eqb (suc j) k ≡ b → row (set l k y) j ≡ true
-      by true p b q = rw (eqb-true j k p) (ap taken (getD-set-same l k y none (omega arith)) ∙ t)
-      by false p true q = other j p ∙ held (row l j) (first-least (λ j. not (row l j)) 4 j (let z = eqb-true (suc j) k q in omega arith))
-      by false p false q = other j p ∙ o j h (sym (other (suc j) q) ∙ e)
+    by : (a : Bool) → eqb j k ≡ a → (b : Bool) → eqb (suc j) k ≡ b → row (set l k y) j ≡ true
+    by true p b q = rw (eqb-true j k p) (ap isTaken (getD-set-same l k y noPlace (omega arith)) ∙ t)
+    by false p true q = other j p ∙ held (row l j) (first-least (λ j. not (row l j)) 4 j (let z = eqb-true (suc j) k q in omega arith))
+    by false p false q = other j p ∙ o j h (sym (other (suc j) q) ∙ e)
 
 -- ---- the table
 
@@ -72,19 +70,19 @@ first-of-four p = by (p 0) (p 1) (p 2) (p 3)
 
 -- another call in one slot
 module _ (t : Table) (word i : ℕ) (c : Call) (inside : i < totalOf t) (s : Shape t) where
-  closed-slot : InOrder (λ j. placeAt c j .taken) → ClosedUp t → ClosedUp (withSlot t word i c)
+  closed-slot : InOrder (row (c .places)) → ClosedUp t → ClosedUp (withSlot t word i c)
   closed-slot new o = record { under = λ m l. by m l (eqb m i) refl; standalone = o .standalone }
     where
-      by : (m : ℕ) → m < totalOf t → (b : Bool) → eqb m i ≡ b → InOrder (λ j. placeAt (callAt (withSlot t word i c) m) j .taken)
+      by : (m : ℕ) → m < totalOf t → (b : Bool) → eqb m i ≡ b → InOrder (row (callAt (withSlot t word i c) m .places))
       by m l true e = rw (eqb-true m i e, call-here t word i c inside (s .calls)) new
       by m l false e = rw (call-other t word i c inside (s .calls) m (eqb-false m i e)) (o .under m l)
 
 -- another record of one customer
 module _ (t : Table) (k : ℕ) (c : Customer) (inside : k < 8) (s : Shape t) where
-  closed-customer : InOrder (λ j. standalonePlaceAt c j .taken) → ClosedUp t → ClosedUp (withCustomer t k c)
+  closed-customer : InOrder (row (c .places)) → ClosedUp t → ClosedUp (withCustomer t k c)
   closed-customer new o = record { under = o .under; standalone = λ m l. by m l (eqb m k) refl }
     where
-      by : (m : ℕ) → m < 8 → (b : Bool) → eqb m k ≡ b → InOrder (λ j. standalonePlaceAt (customerAt (withCustomer t k c) m) j .taken)
+      by : (m : ℕ) → m < 8 → (b : Bool) → eqb m k ≡ b → InOrder (row (customerAt (withCustomer t k c) m .places))
       by m l true e = rw (eqb-true m k e, getD-set-same (t .customers) k c pastCustomer (omega (arith, s .customers))) new
       by m l false e = rw (getD-set-other (t .customers) k m c pastCustomer (eqb-false m k e)) (o .standalone m l)
 
@@ -112,20 +110,20 @@ closed-added t x s m o = by (eqb (x .call) 0) refl
         let k = customerOf t (x .lsp .sender) in
         let f = place-found (listedAt t) (isAt (x .lsp .sender)) 8 (has-true _ (roster t) (m .known)) in
         let c = customerAt t k in
-        closed-customer t k (withStandalonePlace c (freeStandalonePlace c) (standalonePlaceFor (x .lsp))) (f .inside) s
-        (order-set (λ q. q .taken) noStandalonePlace refl (c .places) (standalonePlaceFor (x .lsp)) (s .standalonePlaces k (f .inside)) refl (first-of-four _) (o .standalone k (f .inside))) o
+        closed-customer t k (withStandalonePlace c (freePlace (customerFour c)) (x .lsp .endpoint) (placeFor (x .lsp))) (f .inside) s
+        (order-set (c .places) (placeFor (x .lsp)) (s .standalonePlaces k (f .inside)) refl (first-of-four _) (o .standalone k (f .inside))) o
     by false e =
         let i = slotOf t (isCallOf x) in
         let f = found-slot t (isCallOf x) (m .call (eqb-false _ _ e)) in
         let c = callAt t i in
-        closed-slot t (t .occupied) i (withPlace c (freePlace c) (placeFor (x .lsp))) (f .0) s
-        (order-set (λ q. q .taken) noPlace refl (c .places) (placeFor (x .lsp)) (s .places i (f .0)) refl (first-of-four _) (o .under i (f .0))) o
+        closed-slot t (t .occupied) i (withPlace c (freePlace (callFour c)) (placeFor (x .lsp))) (f .0) s
+        (order-set (c .places) (placeFor (x .lsp)) (s .places i (f .0)) refl (first-of-four _) (o .under i (f .0))) o
 
 -- the fresh table: no place is taken
-fresh-standalone : (s : List ℕ) (k : ℕ) (b : Bool) → InOrder (λ j. standalonePlaceAt (cond b (customerIn s k) noCustomer) j .taken)
+fresh-standalone : (s : List ℕ) (k : ℕ) (b : Bool) → InOrder (row (cond b (customerIn s k) noCustomer .places))
 unfolding noCustomer
-fresh-standalone s k true j h e = absurd (not-taken (rw (alike noStandalonePlace (suc j)) at e))
-fresh-standalone s k false j h e = absurd (not-taken (rw (alike noStandalonePlace (suc j)) at e))
+fresh-standalone s k true j h e = absurd (not-taken (rw (alike noPlace (suc j)) at e))
+fresh-standalone s k false j h e = absurd (not-taken (rw (alike noPlace (suc j)) at e))
 
 pub closed-fresh : (s : List ℕ) → ClosedUp (freshTable s)
 unfolding freshTable noCall customersFrom

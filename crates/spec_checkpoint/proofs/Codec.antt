@@ -1,22 +1,22 @@
 -- A record is read as it was written.
 -- Assumes nothing.
-use Prim.Native.Nat.{ℕ, _+_, _*_, _/_, _%_, _≤_}
+use Prim.Native.Nat.{ℕ, _+_, _*_, _/_, _%_}
 use native.Mathlib.Nat.{add-zero}
 use native.Mathlib.Omega.{arith}
 use mathlib.Core.Path.{_≡_, refl, sym, ap, _∙_}
 use mathlib.Core.List.{List, [], _∷_, _++_, append-assoc}
-use mathlib.Core.Bool.{true, false, not, _&&_}
-use lib.Dec.{leb, eqb}
+use mathlib.Core.Bool.{true, _&&_}
+use lib.Dec.{eqb}
 use lib.ListN.{length, getD, take, drop, replicate, length-append}
 use lib.Seq.{getD-append-add, take-append-seam, drop-append-seam}
-use borrow.Author.Tests.{eqb-true, not-true, leb-true, lt-leb}
+use borrow.Author.Tests.{eqb-true}
 use Rattle.numbers.specs.BigEndian.{be24At, be32At, bytes16, bytes24, bytes32}
-use Rattle.lists.specs.Count.{bit}
 use Rattle.lists.proofs.Tests.{both}
-use Rattle.table.specs.declared.state.Call.{Call}
+use Rattle.table.specs.Table.{Call}
 use Rattle.table.specs.Zeros.{noPlace}
 use Rattle.table.specs.Lists.{Held}
 use Rattle.table.specs.Rules.{validIds, unusedClear, callFreeClear}
+use Rattle.spec_changes.proofs.Valid.{ids-named}
 use Rattle.spec_checkpoint.specs.Layout.{slottedAt, callBytes, heldAtByte, connectionBytes}
 use Rattle.spec_checkpoint.proofs.Blocks.{Split, read, read16, read24, read32}
 
@@ -73,20 +73,15 @@ call-size slot c n =
     )
 
 -- what is not in use yet is zero
-unused : (c : Call) → callFreeClear c ≡ true → (c .made ≡ false) × (c .refreshed ≡ 0) × (c .epoch ≡ 0) × (c .identifier ≡ 0)
+pub unused : (c : Call) → callFreeClear c ≡ true → (c .made ≡ 0) × (c .refreshed ≡ 0) × (c .epoch ≡ 0) × (c .identifier ≡ 0)
 unfolding callFreeClear
 unused c h =
     let a = both (unusedClear c && _) _ h in
     let b = both (unusedClear c) _ (a .0) in
-    let d = both (not (c .made) && eqb (c .refreshed) 0 && eqb (c .epoch) 0) _ (b .0) in
-    let e = both (not (c .made) && eqb (c .refreshed) 0) _ (d .0) in
-    let f = both (not (c .made)) _ (e .0) in
-    (not-true _ (f .0), eqb-true _ _ (f .1), eqb-true _ _ (e .1), eqb-true _ _ (d .1))
-
--- a name has at most 32 bytes
-short-name : (c : Call) → validIds c ≡ true → c .size ≤ 32
-unfolding validIds
-short-name c h = leb-true _ 32 (both (not (eqb (c .id .0) 0) && not (eqb (c .size) 0)) _ h .1)
+    let d = both (eqb (c .made) 0 && eqb (c .refreshed) 0 && eqb (c .epoch) 0) _ (b .0) in
+    let e = both (eqb (c .made) 0 && eqb (c .refreshed) 0) _ (d .0) in
+    let f = both (eqb (c .made) 0) _ (e .0) in
+    (eqb-true _ _ (f .0), eqb-true _ _ (f .1), eqb-true _ _ (e .1), eqb-true _ _ (d .1))
 
 module _ (s : List ℕ) (at slot : ℕ) (c : Call) (n : length (c .name) ≡ 32) (i : Split s (callBytes slot c) at) where
   abbrev b : List ℕ
@@ -94,7 +89,7 @@ module _ (s : List ℕ) (at slot : ℕ) (c : Call) (n : length (c .name) ≡ 32)
 
   -- the twelve bytes before the name, and what stands behind it
   abbrev front : List ℕ
-  front = slot ∷ bytes16 (c .id .0) ++ bytes32 (c .endpoint) ++ bytes32 (c .sender) ++ ((bit (c .made) * 128 + c .size) ∷ [])
+  front = slot ∷ bytes16 (c .id) ++ bytes32 (c .endpoint) ++ bytes32 (c .sender) ++ ((c .made * 128 + c .size) ∷ [])
 
   abbrev rest : List ℕ
   rest = bytes32 (c .refreshed) ++ (bytes24 (c .epoch) ++ (bytes32 (c .identifier) ++ i .after))
@@ -122,17 +117,17 @@ module _ (s : List ℕ) (at slot : ℕ) (c : Call) (n : length (c .name) ≡ 32)
   pub call-back : validIds c ≡ true → callFreeClear c ≡ true → slottedAt s at ≡ record { slot = slot; call = bare c }
   call-back w t =
       let u = unused c t in
-      let few = short-name c w in
+      let few = ids-named c w .most in
       let first : getD s at 0 ≡ slot = rw add-zero at (read s b at i 0) in
       let sized : getD s (at + 11) 0 ≡ c .size = read s b at i 11 ∙ rw (u .0) (omega arith) in
       let small : c .size % 128 ≡ c .size = omega arith in
-      let unmade : leb 128 (c .size) ≡ false = lt-leb 128 (c .size) (omega arith) in
+      let unmade : c .size / 128 ≡ 0 = omega arith in
       let refreshed : be32At s (at + 44) ≡ 0 = read32 s b at i 44 ∙ rw (behind 0, behind 1, behind 2, behind 3, u .1) in
       let epoch : be24At s (at + 48) ≡ 0 = read24 s b at i 48 ∙ rw (behind 4, behind 5, behind 6, u .2) in
       let identifier : be32At s (at + 51) ≡ 0 = read32 s b at i 51 ∙ rw (behind 7, behind 8, behind 9, behind 10, u .3) in
       rw (
         first,
-        read16 s b at i 1 ∙ back16 (c .id .0),
+        read16 s b at i 1 ∙ back16 (c .id),
         read32 s b at i 3 ∙ back32 (c .endpoint),
         read32 s b at i 7 ∙ back32 (c .sender),
         sized,

@@ -4,14 +4,14 @@ use Prim.Native.Nat.{ℕ, zero, suc, _+_, _≤_, _<_}
 use native.Mathlib.Omega.{arith}
 use mathlib.Core.Path.{_≡_, refl, _∙_}
 use mathlib.Core.List.{List, [], _∷_}
-use mathlib.Core.Bool.{Bool, true, false, not, or-true}
+use mathlib.Core.Bool.{Bool, true, false, or-true}
 use lib.Dec.{eqb}
-use borrow.Author.Tests.{lt-ltb}
+use borrow.Author.Tests.{lt-ltb, not-false}
 use Rattle.lists.specs.Count.{bit, count, has}
 use Rattle.lists.specs.Below.{below}
 use Rattle.lists.proofs.Count.{has-false, false-has, no-bit}
 use Rattle.lists.proofs.Below.{count-below, count-at}
-use Rattle.table.specs.declared.state.Table.{Table}
+use Rattle.table.specs.Table.{Table}
 use Rattle.table.specs.Lists.{roster, Entry, entries, Held, held}
 use Rattle.table.specs.Share.{listed}
 use Rattle.table.specs.Rules.{sameLsp}
@@ -23,9 +23,9 @@ use Rattle.spec_changes.proofs.CallMissing.{no-call-missing}
 use Rattle.spec_changes.proofs.Added.{added-roster, added-entries, added-held, added-shape, added-kept}
 use Rattle.spec_checkpoint.specs.Layout.{connectionsIn, connectionRecord}
 use Rattle.spec_checkpoint.specs.Salvage.{connectionFits, withConnections}
-use Rattle.spec_checkpoint.proofs.Salvaged.{may-add}
+use Rattle.spec_checkpoint.proofs.Salvaged.{RecordsFit, may-add}
 use Rattle.spec_checkpoint.proofs.AllKept.{count-prefix}
-use Rattle.spec_checkpoint.proofs.Fours.{fours-hold, senderUnlisted, senders-hold}
+use Rattle.spec_checkpoint.proofs.Fours.{fours-hold, senderUnlisted, senders-hold, placeUnfit, places-fit}
 
 -- the table from the first n of them
 pub record Joined (over : Table) (s : List ℕ) (n : ℕ) : Type 0 where
@@ -34,6 +34,12 @@ pub record Joined (over : Table) (s : List ℕ) (n : ℕ) : Type 0 where
   pub same : roster (withConnections over s n) ≡ roster over
   pub calls : (p : Entry → Bool) → count p (entries (withConnections over s n)) ≡ count p (entries over)
   pub connections : (p : Held → Bool) → count p (held (withConnections over s n)) ≡ count p (below (λ k. connectionRecord s k ∷ []) n)
+
+-- the records are such as a place may hold, since those of the other table are
+pub records-fit : (t : Table) (s : List ℕ) → Kept t → ((p : Held → Bool) → count p (below (λ k. connectionRecord s k ∷ []) (connectionsIn s)) ≡ count p (held t)) → RecordsFit s
+records-fit t s k all n h =
+    not-false _ (no-bit (placeUnfit (connectionRecord s n))
+    (omega (arith, count-at (λ k. connectionRecord s k ∷ []) placeUnfit n (connectionsIn s) h, all placeUnfit, places-fit t k)))
 
 module _ (t over : Table) (s : List ℕ) (k : Kept t) (all : (p : Held → Bool) → count p (below (λ k. connectionRecord s k ∷ []) (connectionsIn s)) ≡ count p (held t))
     (shape : Shape over) (kept : Kept over) (same : roster over ≡ roster t)
@@ -58,11 +64,7 @@ module _ (t over : Table) (s : List ℕ) (k : Kept t) (all : (p : Held → Bool)
     x = connectionRecord s n
 
     known : listed (roster u) (x .lsp .sender) ≡ true
-    known = rw (b .same ∙ same) (by (listed (roster t) (x .lsp .sender)) (no-bit _ (omega (arith, one n h (senderUnlisted t), senders-hold t k))))
-      where
-        by : (a : Bool) → not a ≡ false → a ≡ true
-        by true e = refl
-        by false e = cc
+    known = rw (b .same ∙ same) (not-false _ (no-bit _ (omega (arith, one n h (senderUnlisted t), senders-hold t k))))
 
     new : has (sameLsp x) (held u) ≡ false
     new =
@@ -89,7 +91,7 @@ module _ (t over : Table) (s : List ℕ) (k : Kept t) (all : (p : Held → Bool)
 
     step : Joined over s (suc n)
     step =
-        let m = may-add u x fits in
+        let m = may-add u x (records-fit t s k all n h) fits in
         record {
           shape = rw goes-on (added-shape u x (b .shape) m);
           kept = rw goes-on (added-kept u x (b .shape) m (b .kept));

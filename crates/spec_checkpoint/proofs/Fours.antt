@@ -1,5 +1,5 @@
--- The fours hold in every table that keeps the rules, and every connection's sender is listed: what the table's shape
--- says, as counts.
+-- Of every table that keeps the rules, as counts of its connections: the fours hold, every sender is listed, and the IDs
+-- are such as a place may have.
 -- Assumes nothing.
 use Prim.Native.Nat.{ℕ, zero, suc, _*_, _≤_, _<_}
 use native.Mathlib.Omega.{arith}
@@ -7,35 +7,34 @@ use mathlib.Core.Path.{_≡_, refl, sym, _∙_}
 use mathlib.Core.List.{List, []}
 use mathlib.Core.Bool.{Bool, true, false, not, _&&_, _||_, and-true, and-false}
 use lib.Dec.{ltb, eqb}
-use borrow.Author.Tests.{eq-eqb, ne-eqb, eqb-true, eqb-false, not-true}
+use borrow.Author.Tests.{eq-eqb, ne-eqb, eqb-true, eqb-false}
 use Rattle.lists.specs.Count.{bit, count}
 use Rattle.lists.specs.Below.{when, listIf, below}
 use Rattle.lists.proofs.Count.{count-ext, count-append, true-has, one-bit, no-bit}
 use Rattle.lists.proofs.Tests.{both}
-use Rattle.lists.proofs.Below.{count-when, count-list-if, count-below, count-none, count-at, count-nowhere, count-not-when, count-not-list-if}
-use Rattle.table.specs.declared.state.Call.{Call}
-use Rattle.table.specs.declared.state.Customer.{Customer}
-use Rattle.table.specs.declared.state.Table.{Table}
+use Rattle.lists.proofs.Below.{count-when, count-list-if, count-below, count-none, count-at, every-at}
+use Rattle.table.specs.Table.{Call, Table}
 use Rattle.table.specs.Total.{totalOf}
 use Rattle.table.specs.Word.{isUsed}
-use Rattle.table.specs.Lists.{customerAt, termsOf, listedAt, roster, Ids, Entry, idsOf, callAt, openAt, entries, Held, underCall, placeAt, heldPlace, heldIn, heldAt, withNoCall, standalonePlaceAt, standalonePlace, standaloneIn, standaloneAt, held}
+use Rattle.table.specs.Lists.{customerAt, termsOf, listedAt, roster, Ids, Entry, idsOf, callAt, openAt, entries, Held, Four, callFour, customerFour, placeAt, isTaken, connectionAt, heldPlace, heldIn, heldAt, standaloneAt, held}
 use Rattle.table.specs.Share.{isAt, listed}
-use Rattle.table.specs.Rules.{unlisted, sameShort, validIds}
-use Rattle.spec_changes.specs.Connections.{sameFour, isCallOf}
+use Rattle.table.specs.Rules.{unlisted, sameShort, placeValid, fourValid, unusedClear, callFreeClear, customerFreeClear}
+use Rattle.spec_changes.specs.Connections.{sameFour, placeFor, isCallOf}
+use Rattle.spec_changes.proofs.Valid.{ids-named}
 use Rattle.spec_changes.proofs.Kept.{Kept}
+use Rattle.spec_changes.proofs.Everywhere.{none-in, none-under, none-standalone, none-held}
 use Rattle.spec_changes.proofs.Told.{roster-kept}
 
 -- ---- rows of four, of which a test picks at most one
 
-module _ {ℓ} {A : Type ℓ} (q : A → Bool) (v : ℕ → Bool) (x : ℕ → A) where
-  abbrev four : ℕ → List A
-  four j = when (v j) (x j)
-
-  one : (j : ℕ) → count q (four j) ≤ 1
-  one j = rw (count-when q (v j) (x j)) (one-bit (v j && q (x j)))
-
-  pub four-at-most : count q (below four 4) ≤ 4
-  four-at-most = omega (arith, count-below four q 0, count-below four q 1, count-below four q 2, count-below four q 3, count-none four q, one 0, one 1, one 2, one 3)
+-- a four has at most four that pass, and none where none of its connections does
+at-most : (q : Held → Bool) (f : Four) (b : Bool) → (b ≡ false → (j : ℕ) → q (connectionAt f j) ≡ false) → count q (heldIn f) ≤ 4 * bit b
+at-most q f true h =
+    omega (arith, count-below (heldPlace f) q 0, count-below (heldPlace f) q 1, count-below (heldPlace f) q 2, count-below (heldPlace f) q 3, count-none (heldPlace f) q, one 0, one 1, one 2, one 3)
+  where
+    one : (j : ℕ) → count q (heldPlace f j) ≤ 1
+    one j = rw (count-when q (isTaken (placeAt f j)) (connectionAt f j)) (one-bit (isTaken (placeAt f j) && q (connectionAt f j)))
+at-most q f false h = omega (arith, none-in q f (λ j _ _. h refl j))
 
 -- what the rows have is four times what the test picks, at most
 module _ {ℓ ℓ′} {A : Type ℓ} {B : Type ℓ′} (q : A → Bool) (h : B → Bool) (u : ℕ → Bool) (l : ℕ → List A) (y : ℕ → B) where
@@ -56,13 +55,6 @@ module _ {ℓ ℓ′} {A : Type ℓ} {B : Type ℓ′} (q : A → Bool) (h : B �
       by false e = rw (count-list-if q (u n) (l n), e) (omega arith)
 
 -- ---- the fours
-
-numbered : (c : Call) → validIds c ≡ true → eqb 0 (c .id .0) ≡ false
-unfolding validIds
-numbered c h =
-    let w = both (not (eqb (c .id .0) 0) && not (eqb (c .size) 0)) _ h in
-    let v = both (not (eqb (c .id .0) 0)) _ (w .0) in
-    ne-eqb 0 (c .id .0) (λ z. eqb-false (c .id .0) 0 (not-true _ (v .0)) (sym z))
 
 module _ (t : Table) (k : Kept t) (x : Held) where
   -- the call of a connection is one at most
@@ -86,32 +78,21 @@ module _ (t : Table) (k : Kept t) (x : Held) where
       omega (
         arith,
         one-call,
-        rows-bound (sameFour x) (isCallOf x) (isUsed (t .occupied)) (λ i. heldIn (callAt t i)) (λ i. record { slot = i; ids = idsOf (callAt t i) }) (totalOf t)
-            (λ i l u. by (callAt t i) (isCallOf x (record { slot = i; ids = idsOf (callAt t i) })) refl),
+        rows-bound (sameFour x) (isCallOf x) (isUsed (t .occupied)) (λ i. heldIn (callFour (callAt t i))) (λ i. record { slot = i; ids = idsOf (callAt t i) }) (totalOf t)
+            (λ i l u. at-most (sameFour x) (callFour (callAt t i)) (isCallOf x (record { slot = i; ids = idsOf (callAt t i) })) (elsewhere (callAt t i))),
       )
     where
-      by : (c : Call) (b : Bool) → isCallOf x (record { slot = 0; ids = idsOf c }) ≡ b → count (sameFour x) (heldIn c) ≤ 4 * bit b
-      by c true e = four-at-most (sameFour x) (λ j. placeAt c j .taken) (λ j. underCall c (placeAt c j))
-      by c false e =
-          omega (
-            arith,
-            count-nowhere (sameFour x) (heldPlace c) 4
-                (λ j b. count-not-when (sameFour x) (placeAt c j .taken) (underCall c (placeAt c j))
-                (rw (ne-eqb (x .call) 0 n) (not-own (eqb (x .call) (c .id .0)) (eqb (x .lsp .sender) (c .sender)) (eqb (x .lsp .endpoint) (c .endpoint)) e))),
-          )
-        where
-          not-own : (a b d : Bool) → (a && d && b) ≡ false → (a && b && (false || d)) ≡ false
-          not-own true true d e = sym (and-true d) ∙ e
-          not-own true false d e = refl
-          not-own false b d e = refl
+      not-own : (a b d : Bool) → (a && d && b) ≡ false → (a && b && (false || d)) ≡ false
+      not-own true true d e = sym (and-true d) ∙ e
+      not-own true false d e = refl
+      not-own false b d e = refl
+
+      elsewhere : (c : Call) → isCallOf x (record { slot = 0; ids = idsOf c }) ≡ false → (j : ℕ) → sameFour x (connectionAt (callFour c) j) ≡ false
+      elsewhere c e j = rw (ne-eqb (x .call) 0 n) (not-own (eqb (x .call) (c .id)) (eqb (x .lsp .sender) (c .sender)) (eqb (x .lsp .endpoint) (c .endpoint)) e)
 
   -- a call's ID is not 0
   under-none : x .call ≡ 0 → count (sameFour x) (below (heldAt t) (totalOf t)) ≡ 0
-  under-none e =
-      count-nowhere (sameFour x) (heldAt t) (totalOf t) (λ i l.
-      count-not-list-if (sameFour x) (isUsed (t .occupied) i) (heldIn (callAt t i)) (λ u.
-      count-nowhere (sameFour x) (heldPlace (callAt t i)) 4 (λ j b.
-      count-not-when (sameFour x) (placeAt (callAt t i) j .taken) (underCall (callAt t i) (placeAt (callAt t i) j)) (rw (e, numbered (callAt t i) (k .names i l u))))))
+  under-none e = none-under (sameFour x) t (λ i l u j _ _. rw (e, ne-eqb 0 (callAt t i .id) (omega (arith, ids-named (callAt t i) (k .names i l u) .some))))
 
   -- with Call ID 0: those of one customer where it is 0, none where it is not
   standalone-some : count (sameFour x) (below (standaloneAt t) 8) ≤ 4
@@ -119,25 +100,12 @@ module _ (t : Table) (k : Kept t) (x : Held) where
       omega (
         arith,
         roster-kept t (k .accepted) .apart (x .lsp .sender),
-        rows-bound (sameFour x) (isAt (x .lsp .sender)) (λ i. ltb i (t .listed)) (λ i. standaloneIn (customerAt t i)) (λ i. termsOf (customerAt t i)) 8
-            (λ i l u. by (customerAt t i) (isAt (x .lsp .sender) (termsOf (customerAt t i))) refl),
+        rows-bound (sameFour x) (isAt (x .lsp .sender)) (λ i. ltb i (t .listed)) (λ i. heldIn (customerFour (customerAt t i))) (λ i. termsOf (customerAt t i)) 8
+            (λ i l u. at-most (sameFour x) (customerFour (customerAt t i)) (isAt (x .lsp .sender) (termsOf (customerAt t i))) (λ e j. rw (e, and-false (eqb (x .call) 0)))),
       )
-    where
-      by : (c : Customer) (b : Bool) → isAt (x .lsp .sender) (termsOf c) ≡ b → count (sameFour x) (standaloneIn c) ≤ 4 * bit b
-      by c true e = four-at-most (sameFour x) (λ j. standalonePlaceAt c j .taken) (λ j. withNoCall c (standalonePlaceAt c j))
-      by c false e =
-          omega (
-            arith,
-            count-nowhere (sameFour x) (standalonePlace c) 4
-                (λ j b. count-not-when (sameFour x) (standalonePlaceAt c j .taken) (withNoCall c (standalonePlaceAt c j)) (rw (e, and-false (eqb (x .call) 0)))),
-          )
 
   standalone-none : (x .call ≡ 0 → ⊥) → count (sameFour x) (below (standaloneAt t) 8) ≡ 0
-  standalone-none n =
-      count-nowhere (sameFour x) (standaloneAt t) 8 (λ i l.
-      count-not-list-if (sameFour x) (ltb i (t .listed)) (standaloneIn (customerAt t i)) (λ u.
-      count-nowhere (sameFour x) (standalonePlace (customerAt t i)) 4 (λ j b.
-      count-not-when (sameFour x) (standalonePlaceAt (customerAt t i) j .taken) (withNoCall (customerAt t i) (standalonePlaceAt (customerAt t i) j)) (rw (ne-eqb (x .call) 0 n)))))
+  standalone-none n = none-standalone (sameFour x) t (λ i l u j _ _. rw (ne-eqb (x .call) 0 n))
 
   pub fours-hold : count (sameFour x) (held t) ≤ 4
   fours-hold = by (eqb (x .call) 0) refl
@@ -174,18 +142,30 @@ module _ (t : Table) (k : Kept t) where
       rw (true-has (isAt a) (roster t) (omega (arith, here, count-at (listedAt t) (isAt a) i 8 l)))
 
   pub senders-hold : count (senderUnlisted t) (held t) ≡ 0
-  senders-hold = count-append (senderUnlisted t) (below (heldAt t) (totalOf t)) (below (standaloneAt t) 8) ∙ rw (under, standalone)
-    where
-      under : count (senderUnlisted t) (below (heldAt t) (totalOf t)) ≡ 0
-      under =
-          count-nowhere (senderUnlisted t) (heldAt t) (totalOf t) (λ i l.
-          count-not-list-if (senderUnlisted t) (isUsed (t .occupied) i) (heldIn (callAt t i)) (λ u.
-          count-nowhere (senderUnlisted t) (heldPlace (callAt t i)) 4 (λ j b.
-          count-not-when (senderUnlisted t) (placeAt (callAt t i) j .taken) (underCall (callAt t i) (placeAt (callAt t i) j)) (call-sender i l u))))
+  senders-hold = none-held (senderUnlisted t) t (λ i l u j _ _. call-sender i l u) (λ i l u j _ _. customer-sender i l u)
 
-      standalone : count (senderUnlisted t) (below (standaloneAt t) 8) ≡ 0
-      standalone =
-          count-nowhere (senderUnlisted t) (standaloneAt t) 8 (λ i l.
-          count-not-list-if (senderUnlisted t) (ltb i (t .listed)) (standaloneIn (customerAt t i)) (λ u.
-          count-nowhere (senderUnlisted t) (standalonePlace (customerAt t i)) 4 (λ j b.
-          count-not-when (senderUnlisted t) (standalonePlaceAt (customerAt t i) j .taken) (withNoCall (customerAt t i) (standalonePlaceAt (customerAt t i) j)) (customer-sender i l u))))
+-- ---- the IDs
+
+-- a connection whose IDs no place may have
+abbrev pub placeUnfit : Held → Bool
+placeUnfit x = not (placeValid (placeFor (x .lsp)))
+
+-- what a valid place holds may stand in a place
+taken-fits : (f : Four) (j : ℕ) → fourValid f ≡ true → j < 4 → isTaken (placeAt f j) ≡ true → placeUnfit (connectionAt f j) ≡ false
+unfolding placeValid
+taken-fits f j v l u = let h : placeValid (placeAt f j) ≡ true = every-at _ 4 v j l in rw (rw u at h)
+
+module _ (t : Table) (k : Kept t) where
+  pub under-valid : (i : ℕ) → i < totalOf t → isUsed (t .occupied) i ≡ true → fourValid (callFour (callAt t i)) ≡ true
+  unfolding callFreeClear
+  under-valid i l u = let h : callFreeClear (callAt t i) ≡ true = rw u at (k .slots i l) in both (unusedClear (callAt t i) && _) _ h .1
+
+  pub standalone-valid : (i : ℕ) → i < 8 → ltb i (t .listed) ≡ true → fourValid (customerFour (customerAt t i)) ≡ true
+  unfolding customerFreeClear
+  standalone-valid i l u = let h : customerFreeClear (customerAt t i) ≡ true = rw u at (k .records i l) in both (fourValid (customerFour (customerAt t i))) _ h .0
+
+  pub places-fit : count placeUnfit (held t) ≡ 0
+  places-fit =
+      none-held placeUnfit t
+      (λ i l u j. taken-fits (callFour (callAt t i)) j (under-valid i l u))
+      (λ i l u j. taken-fits (customerFour (customerAt t i)) j (standalone-valid i l u))

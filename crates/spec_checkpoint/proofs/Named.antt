@@ -9,8 +9,7 @@ use lib.Dec.{ltb}
 use borrow.Author.Tests.{eq-eqb, lt-ltb}
 use Rattle.lists.proofs.Below.{every-at}
 use Rattle.lists.proofs.Tests.{both}
-use Rattle.table.specs.declared.state.Call.{Call}
-use Rattle.table.specs.declared.state.Table.{Table}
+use Rattle.table.specs.Table.{Call, Table}
 use Rattle.table.specs.Total.{totalOf}
 use Rattle.table.specs.Word.{isUsed}
 use Rattle.table.specs.Lists.{roster, idsOf, entries}
@@ -18,8 +17,7 @@ use Rattle.table.specs.Share.{S}
 use Rattle.table.specs.Rules.{sameLong}
 use Rattle.table.specs.Roster.{rosterNumber, rosterAnswer}
 use Rattle.spec_changes.proofs.Told.{rules-kept}
-use Rattle.spec_checkpoint.specs.declared.record.Slotted.{Slotted}
-use Rattle.spec_checkpoint.specs.Layout.{callsIn, callRecord}
+use Rattle.spec_checkpoint.specs.Layout.{Slotted, callsIn, callRecord}
 use Rattle.spec_checkpoint.specs.Salvage.{placed, soundAlone, namedBy, goesBefore, keptByLongId, callFits}
 use Rattle.spec_checkpoint.specs.Restored.{badSize, restored}
 

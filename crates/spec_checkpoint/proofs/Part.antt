@@ -7,22 +7,22 @@ use mathlib.Core.Path.{_≡_}
 use mathlib.Core.List.{[]}
 use mathlib.Core.Bool.{Bool, true, false}
 use Rattle.lists.specs.Count.{bit, count}
-use Rattle.table.specs.declared.state.Table.{Table}
+use Rattle.table.specs.Table.{Table}
 use Rattle.table.specs.Total.{totalOf}
 use Rattle.table.specs.Word.{isUsed, flipped}
-use Rattle.table.specs.Lists.{roster, idsOf, Entry, entries, Held, heldIn, held}
+use Rattle.table.specs.Lists.{roster, idsOf, Entry, entries, Held, callFour, heldIn, held}
 use Rattle.table.specs.Rules.{rosterHolds, validIds, sameLsp, callFreeClear}
 use Rattle.table.proofs.Slots.{flipped-free, flipped-other}
 use Rattle.spec_changes.specs.Shape.{Shape}
 use Rattle.spec_changes.proofs.Kept.{CallsKept, Kept}
 use Rattle.spec_changes.proofs.Slot.{slot-entries, slot-held, slot-names, slot-free-clear}
-use Rattle.spec_checkpoint.specs.declared.record.Slotted.{Slotted}
+use Rattle.spec_checkpoint.specs.Layout.{Slotted}
 use Rattle.spec_checkpoint.specs.Salvage.{placed}
 
 abbrev pub entryOf : Slotted → Entry
 entryOf r = record { slot = r .slot; ids = idsOf (r .call) }
 
-module _ (t : Table) (r : Slotted) (s : Shape t) (inside : r .slot < totalOf t) (was : isUsed (t .occupied) (r .slot) ≡ false) (none : heldIn (r .call) ≡ []) where
+module _ (t : Table) (r : Slotted) (s : Shape t) (inside : r .slot < totalOf t) (was : isUsed (t .occupied) (r .slot) ≡ false) (none : heldIn (callFour (r .call)) ≡ []) where
   abbrev word : ℕ
   word = flipped (t .occupied) (r .slot)
 

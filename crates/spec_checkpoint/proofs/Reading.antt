@@ -7,6 +7,7 @@ use mathlib.Core.List.{List, [], _∷_}
 use mathlib.Core.Bool.{Bool, true, false, cond, not, _||_}
 use lib.Dec.{eqb}
 use borrow.Author.Tests.{eq-eqb, eqb-true}
+use Rattle.numbers.specs.BigEndian.{Bytes}
 use Rattle.numbers.specs.Search.{isIn}
 use Rattle.table.specs.declared.answer.RosterAnswer.{RosterAnswer}
 use Rattle.table.specs.declared.answer.RosterAnswer.the-variants.{Accepted, Short, Form, Length, SpareBits, Share, Repeated, Guarantees}
@@ -16,11 +17,11 @@ use Rattle.table.specs.Rules.{rulesHold}
 use Rattle.table.specs.Roster.{customersIn, recordsIn, rosterNumber, rosterAnswer, freshTable, tableFor, formIn}
 use Rattle.table.proofs.Fresh.{fresh-holds, empty-holds, fresh-roster}
 use Rattle.spec_changes.proofs.Fresh.{fresh-shape}
-use Rattle.spec_promises.specs.Promises.{Input, AtEveryStep, Promised, Bytes}
+use Rattle.spec_promises.specs.Promises.{Input, AtEveryStep, Promised}
 use Rattle.spec_promises.proofs.Demand3.{accepted, demand3-from}
 use Rattle.spec_checkpoint.specs.Restored.{Restored, badSize, unrestored, fromCheckpoint, dropsNone, restored}
 use Rattle.spec_checkpoint.proofs.Closed.{closed-fresh}
-use Rattle.spec_checkpoint.proofs.Salvaged.{Sound, salvaged-sound}
+use Rattle.spec_checkpoint.proofs.Salvaged.{Sound, RecordsFit, bytes-fit, salvaged-sound}
 
 -- ---- the table that is given
 
@@ -30,9 +31,9 @@ terms r = recordsIn r (customersIn r)
 fresh-sound : (r : List ℕ) → Bytes r → rosterAnswer r ≡ Accepted → Sound (terms r) (freshTable r)
 fresh-sound r b e = record { shape = fresh-shape r; rules = fresh-holds r b e; roster = fresh-roster r e; closed = closed-fresh r }
 
-pub checkpoint-sound : (r s : List ℕ) → Bytes r → rosterAnswer r ≡ Accepted → Sound (terms r) (fromCheckpoint r s .table)
+pub checkpoint-sound : (r s : List ℕ) → Bytes r → RecordsFit s → rosterAnswer r ≡ Accepted → Sound (terms r) (fromCheckpoint r s .table)
 unfolding fromCheckpoint
-checkpoint-sound r s b e = salvaged-sound (terms r) (freshTable r) s (fresh-sound r b e)
+checkpoint-sound r s b v e = salvaged-sound (terms r) (freshTable r) s v (fresh-sound r b e)
 
 -- what an accepted roster's reading gives is one of two
 module _ (P : Restored → Type 0) (salvage : Bool) (r s : List ℕ) (e : rosterNumber (rosterAnswer r) ≡ 0) where
@@ -47,18 +48,18 @@ module _ (P : Restored → Type 0) (salvage : Bool) (r s : List ℕ) (e : roster
       by false false false = u 72
 
 -- of an accepted roster: the rules, the shape, the roster itself, and places closed up
-pub restored-sound : (salvage : Bool) (r s : List ℕ) → Bytes r → rosterNumber (rosterAnswer r) ≡ 0 → Sound (terms r) (restored salvage r s .table)
-restored-sound salvage r s b e =
+pub restored-sound : (salvage : Bool) (r s : List ℕ) → Bytes r → Bytes s → rosterNumber (rosterAnswer r) ≡ 0 → Sound (terms r) (restored salvage r s .table)
+restored-sound salvage r s b d e =
     let a = accepted (rosterAnswer r) e in
-    read-as (λ f. Sound (terms r) (f .table)) salvage r s e (λ n. fresh-sound r b a) (checkpoint-sound r s b a)
+    read-as (λ f. Sound (terms r) (f .table)) salvage r s e (λ n. fresh-sound r b a) (checkpoint-sound r s b (bytes-fit s d) a)
 
 -- "whatever bytes are read, the table given keeps the rules"
-pub restored-holds : (salvage : Bool) (r s : List ℕ) → Bytes r → rulesHold (restored salvage r s .table) ≡ true
+pub restored-holds : (salvage : Bool) (r s : List ℕ) → Bytes r → Bytes s → rulesHold (restored salvage r s .table) ≡ true
 unfolding restored tableFor
-restored-holds salvage r s b = by (eqb (rosterNumber (rosterAnswer r)) 0) refl
+restored-holds salvage r s b d = by (eqb (rosterNumber (rosterAnswer r)) 0) refl
   where
     by : (a : Bool) → eqb (rosterNumber (rosterAnswer r)) 0 ≡ a → rulesHold (restored salvage r s .table) ≡ true
-    by true q = restored-sound salvage r s b (eqb-true _ _ q) .rules
+    by true q = restored-sound salvage r s b d (eqb-true _ _ q) .rules
     by false q = rw q empty-holds
 
 -- "salvage of an accepted roster answers 0, 70 or 71 only"
@@ -109,9 +110,9 @@ plain-72 r s = by (rosterAnswer r) (badSize s) (not (eqb (formIn s) 1)) (dropsNo
 
 -- ---- demand 3 from a table that was read: the ledger holds its calls, and counts them as opened
 
-pub demand3-restored : (salvage : Bool) (r s : List ℕ) → Bytes r → rosterNumber (rosterAnswer r) ≡ 0 → (xs : List Input)
+pub demand3-restored : (salvage : Bool) (r s : List ℕ) → Bytes r → Bytes s → rosterNumber (rosterAnswer r) ≡ 0 → (xs : List Input)
     → AtEveryStep (Promised total (recordsIn r (customersIn r)) (entries (restored salvage r s .table))) (restored salvage r s .table) [] xs
-demand3-restored salvage r s b e xs =
-    let i = restored-sound salvage r s b e in
+demand3-restored salvage r s b d e xs =
+    let i = restored-sound salvage r s b d e in
     let t = restored salvage r s .table in
     rw (← (i .roster)) (demand3-from t (entries t) (record { shape = i .shape; rules = i .rules; calls = λ p. refl }) xs)

@@ -9,9 +9,10 @@ use mathlib.Core.List.{List}
 use mathlib.Core.Bool.{Bool, true, false}
 use lib.ListN.{length}
 use borrow.Author.Tests.{eq-eqb, le-ltb}
+use Rattle.numbers.specs.BigEndian.{Bytes}
 use Rattle.lists.specs.Count.{count}
 use Rattle.lists.proofs.Count.{count-all}
-use Rattle.table.specs.declared.state.Table.{Table}
+use Rattle.table.specs.Table.{Table}
 use Rattle.table.specs.declared.answer.RosterAnswer.the-variants.{Accepted}
 use Rattle.table.specs.Total.{totalOf}
 use Rattle.table.specs.Lists.{roster, Entry, callAt, entries, Held, held}
@@ -21,14 +22,13 @@ use Rattle.table.proofs.Fresh.{fresh-holds, fresh-roster, fresh-entries, fresh-
 use Rattle.spec_changes.proofs.Kept.{Kept}
 use Rattle.spec_changes.proofs.Told.{rules-kept}
 use Rattle.spec_changes.proofs.Fresh.{fresh-shape}
-use Rattle.spec_promises.specs.Promises.{Bytes}
 use Rattle.spec_promises.proofs.Demand3.{accepted}
 use Rattle.spec_checkpoint.specs.Layout.{callsIn, connectionsIn, checkpointSize, checkpointOf}
 use Rattle.spec_checkpoint.specs.Places.{ClosedUp}
 use Rattle.spec_checkpoint.specs.Salvage.{withCalls, salvaged}
 use Rattle.spec_checkpoint.specs.Restored.{Restored, badSize, fromCheckpoint, restored}
 use Rattle.spec_checkpoint.proofs.AllKept.{Filled, filled}
-use Rattle.spec_checkpoint.proofs.Connected.{Joined, joined-all}
+use Rattle.spec_checkpoint.proofs.Connected.{records-fit, Joined, joined-all}
 use Rattle.spec_checkpoint.proofs.Reading.{checkpoint-sound}
 use Rattle.spec_checkpoint.proofs.Written.{calls-in, connections-in, form-in, checkpoint-size, copied, connections-are}
 
@@ -104,7 +104,7 @@ module _ (t : Table) (k : Kept t) (names : (i : ℕ) → i < totalOf t → lengt
     connections = no-connections-dropped;
     entries = entries-same;
     held = held-same;
-    closed = checkpoint-sound r s bytes e .closed;
+    closed = checkpoint-sound r s bytes (records-fit t s k (λ p. ap (count p) (connections-are t k names))) e .closed;
   }
 
 -- every table that keeps the rules, written and read plainly under the same customer records

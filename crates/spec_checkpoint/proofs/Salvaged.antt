@@ -1,29 +1,33 @@
 -- Every table that a checkpoint is read into keeps the rules and the roster, whatever bytes the checkpoint has.
 -- Assumes nothing.
-use Prim.Native.Nat.{ℕ, zero, suc, _<_}
+use Prim.Native.Nat.{ℕ, zero, suc, _+_, _*_, _≤_, _<_}
+use native.Mathlib.Nat.{le-refl}
+use native.Mathlib.Omega.{arith}
 use mathlib.Core.Path.{_≡_, refl, ap, _∙_}
 use mathlib.Core.List.{List}
 use mathlib.Core.Bool.{Bool, true, false, cond, not, _&&_}
 use lib.Dec.{eqb}
 use lib.ListN.{length, replicate}
 use borrow.Author.Tests.{ltb-true, ne-eqb, not-true}
+use Rattle.numbers.specs.BigEndian.{Bytes}
+use Rattle.numbers.proofs.BigEndian.{be16-bound}
 use Rattle.lists.specs.Count.{has}
 use Rattle.lists.proofs.Count.{has-true, has-false}
 use Rattle.lists.proofs.Tests.{both}
-use Rattle.table.specs.declared.state.Table.{Table}
+use Rattle.table.specs.Table.{Table}
 use Rattle.table.specs.Total.{totalOf}
 use Rattle.table.specs.Word.{isUsed}
 use Rattle.table.specs.Zeros.{noPlace}
 use Rattle.table.specs.Lists.{Terms, roster, Held, held, entries}
 use Rattle.table.specs.Share.{listed}
-use Rattle.table.specs.Rules.{sameLsp, rulesHold}
+use Rattle.table.specs.Rules.{sameLsp, placeValid, rulesHold}
 use Rattle.spec_changes.specs.Shape.{Shape}
-use Rattle.spec_changes.specs.Connections.{added, callMissing}
+use Rattle.spec_changes.specs.Connections.{placeFor, added, callMissing}
+use Rattle.spec_changes.proofs.Valid.{valid-place}
 use Rattle.spec_changes.proofs.Opened.{flipped-shape}
 use Rattle.spec_changes.proofs.Added.{MayAdd, added-roster, added-shape, added-kept}
 use Rattle.spec_changes.proofs.Told.{rules-kept, kept-rules}
-use Rattle.spec_checkpoint.specs.Layout.{callsIn, connectionsIn, callRecord, connectionRecord}
-use Rattle.spec_checkpoint.specs.declared.record.Slotted.{Slotted}
+use Rattle.spec_checkpoint.specs.Layout.{Slotted, callsIn, connectionsIn, callRecord, connectionRecord}
 use Rattle.spec_checkpoint.specs.Places.{ClosedUp}
 use Rattle.spec_checkpoint.specs.Salvage.{placed, soundAlone, keptByLongId, callFits, withCalls, connectionFits, withConnections, salvaged}
 use Rattle.spec_checkpoint.proofs.Closed.{closed-placed, closed-added}
@@ -67,9 +71,9 @@ calls-sound r fresh s i (suc n) =
 
 -- ---- connections
 
-pub may-add : (t : Table) (x : Held) → connectionFits t x ≡ true → MayAdd t x
+pub may-add : (t : Table) (x : Held) → placeValid (placeFor (x .lsp)) ≡ true → connectionFits t x ≡ true → MayAdd t x
 unfolding connectionFits
-may-add t x f =
+may-add t x v f =
     let a = both (listed (roster t) (x .lsp .sender) && not (has (sameLsp x) (held t)) && not (callMissing (entries t) x)) _ f in
     let b = both (listed (roster t) (x .lsp .sender) && not (has (sameLsp x) (held t))) _ (a .0) in
     let c = both (listed (roster t) (x .lsp .sender)) _ (b .0) in
@@ -78,15 +82,16 @@ may-add t x f =
       new = has-false _ (held t) (not-true _ (c .1));
       call = λ n. has-true _ (entries t) (by _ (ne-eqb (x .call) 0 n) (b .1));
       room = ltb-true _ 4 (a .1);
+      valid = v;
     }
   where
     by : (h : Bool) → eqb (x .call) 0 ≡ false → not (not (eqb (x .call) 0) && not h) ≡ true → h ≡ true
     by true e z = refl
     by false e z = rw e at z
 
-connection-sound : (r : List Terms) (t : Table) (x : Held) → connectionFits t x ≡ true → Sound r t → Sound r (added t x)
-connection-sound r t x f i =
-    let m = may-add t x f in
+connection-sound : (r : List Terms) (t : Table) (x : Held) → placeValid (placeFor (x .lsp)) ≡ true → connectionFits t x ≡ true → Sound r t → Sound r (added t x)
+connection-sound r t x v f i =
+    let m = may-add t x v f in
     record {
       shape = added-shape t x (i .shape) m;
       rules = kept-rules (added t x) (added-kept t x (i .shape) m (rules-kept t (i .rules)));
@@ -94,14 +99,25 @@ connection-sound r t x f i =
       closed = closed-added t x (i .shape) m (i .closed);
     }
 
-pub connections-sound : (r : List Terms) (t : Table) (s : List ℕ) → Sound r t → (n : ℕ) → Sound r (withConnections t s n)
-unfolding withConnections
-connections-sound r t s i zero = i
-connections-sound r t s i (suc n) =
-    let before = withConnections t s n in
-    either (Sound r) (connectionFits before (connectionRecord s n)) (added before (connectionRecord s n)) before (connections-sound r t s i n)
-    (λ h. connection-sound r before (connectionRecord s n) h (connections-sound r t s i n))
+-- each connection record has IDs that a place may have
+abbrev pub RecordsFit : List ℕ → Type 0
+RecordsFit s = (n : ℕ) → n < connectionsIn s → placeValid (placeFor (connectionRecord s n .lsp)) ≡ true
 
-pub salvaged-sound : (r : List Terms) (fresh : Table) (s : List ℕ) → Sound r fresh → Sound r (salvaged fresh s)
+-- those of a byte string do
+pub bytes-fit : (s : List ℕ) → Bytes s → RecordsFit s
+bytes-fit s b n h =
+    let at = 4 + 55 * callsIn s + 18 * n in
+    valid-place (connectionRecord s n .lsp) (be16-bound s (at + 6) b) (be16-bound s (at + 16) b)
+
+pub connections-sound : (r : List Terms) (t : Table) (s : List ℕ) → RecordsFit s → Sound r t → (n : ℕ) → n ≤ connectionsIn s → Sound r (withConnections t s n)
+unfolding withConnections
+connections-sound r t s v i zero l = i
+connections-sound r t s v i (suc n) l =
+    let before = withConnections t s n in
+    let k = connections-sound r t s v i n (omega arith) in
+    either (Sound r) (connectionFits before (connectionRecord s n)) (added before (connectionRecord s n)) before k
+    (λ h. connection-sound r before (connectionRecord s n) (v n l) h k)
+
+pub salvaged-sound : (r : List Terms) (fresh : Table) (s : List ℕ) → RecordsFit s → Sound r fresh → Sound r (salvaged fresh s)
 unfolding salvaged
-salvaged-sound r fresh s i = connections-sound r _ s (calls-sound r fresh s i (callsIn s)) (connectionsIn s)
+salvaged-sound r fresh s v i = connections-sound r _ s v (calls-sound r fresh s i (callsIn s)) (connectionsIn s) (le-refl (connectionsIn s))

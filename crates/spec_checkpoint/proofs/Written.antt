@@ -14,17 +14,15 @@ use Rattle.lists.specs.Count.{bit, count}
 use Rattle.lists.specs.Below.{when, below, everyBelow}
 use Rattle.lists.proofs.Below.{count-when, count-nowhere, below-ext}
 use Rattle.lists.proofs.Tests.{both}
-use Rattle.table.specs.declared.state.Call.{Call}
-use Rattle.table.specs.declared.state.Table.{Table}
+use Rattle.table.specs.Table.{Call, Table}
 use Rattle.table.specs.Total.{totalOf}
 use Rattle.table.specs.Word.{isUsed}
 use Rattle.table.specs.Lists.{Entry, idsOf, callAt, entries, Held, held}
-use Rattle.table.specs.Rules.{validIds, unusedClear, placeClear, callFreeClear}
+use Rattle.table.specs.Rules.{validIds, unusedClear, placeClear, placeValid, callFreeClear}
 use Rattle.table.specs.Roster.{formIn}
 use Rattle.spec_changes.proofs.Slot.{open-most}
 use Rattle.spec_changes.proofs.Kept.{Kept}
-use Rattle.spec_checkpoint.specs.declared.record.Slotted.{Slotted}
-use Rattle.spec_checkpoint.specs.Layout.{callsIn, connectionsIn, checkpointSize, callRecord, callBytes, connectionRecord, connectionBytes, joined, headBytes, checkpointOf}
+use Rattle.spec_checkpoint.specs.Layout.{Slotted, callsIn, connectionsIn, checkpointSize, callRecord, callBytes, connectionRecord, connectionBytes, joined, headBytes, checkpointOf}
 use Rattle.spec_checkpoint.proofs.Part.{entryOf}
 use Rattle.spec_checkpoint.proofs.AllKept.{Copied}
 use Rattle.spec_checkpoint.proofs.Blocks.{Split, Blocks, joined-length, joined-split, split-between, split-behind}
@@ -125,7 +123,7 @@ module _ (t : Table) (k : Kept t) (names : (i : ℕ) → i < totalOf t → lengt
   bare-names c h = h
 
   bare-free-clear : (c : Call) → callFreeClear c ≡ true → callFreeClear (bare c) ≡ true
-  unfolding callFreeClear everyBelow placeClear
+  unfolding callFreeClear everyBelow placeClear placeValid
   bare-free-clear c h = rw (both (unusedClear c && zerosAt (c .name) (c .size) (32 - c .size)) _ h .0)
 
   -- what holds of each call that stands in a used slot holds of each record

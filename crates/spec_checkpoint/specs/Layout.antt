@@ -1,19 +1,15 @@
 -- A checkpoint (02, A13): packed bits, each field from the top bit down. A head of 4 bytes, 55 bytes for each call, 18
 -- for each connection.
-use Prim.Native.Nat.{ℕ, _+_, _*_, _%_}
+use Prim.Native.Nat.{ℕ, _+_, _*_, _/_, _%_}
 use mathlib.Core.List.{List, [], _∷_, _++_}
-use lib.Dec.{leb}
 use lib.ListN.{length, getD, take, drop, replicate}
 use Rattle.numbers.specs.BigEndian.{be16At, be24At, be32At, bytes16, bytes24, bytes32}
-use Rattle.lists.specs.Count.{bit}
 use Rattle.lists.specs.Below.{listIf, below}
-use Rattle.table.specs.declared.state.Call.{Call}
-use Rattle.table.specs.declared.state.Table.{Table}
+use Rattle.table.specs.Table.{Call, Table}
 use Rattle.table.specs.Total.{totalOf}
 use Rattle.table.specs.Word.{isUsed}
 use Rattle.table.specs.Zeros.{noPlace}
 use Rattle.table.specs.Lists.{callAt, entries, Held, held}
-use Rattle.spec_checkpoint.specs.declared.record.Slotted.{Slotted}
 
 -- ---- the head: form 4 bits, where a roster has them (`formIn`), calls 12, connections 16
 
@@ -29,6 +25,11 @@ checkpointSize calls connections = 4 + 55 * calls + 18 * connections
 -- ---- a call: slot 8 bits, short ID 16, end point 32, sender 32, made mark 1, name length 7, name 256, last refresh 32, request epoch 24 and
 -- identifier 32
 
+-- a call's record: its slot, and the call as a slot would hold it
+pub record Slotted : Type 0 where
+  pub slot : ℕ
+  pub call : Call
+
 abbrev pub slottedAt : List ℕ → ℕ → Slotted
 slottedAt s at = record {
   slot = getD s at 0;
@@ -38,8 +39,8 @@ slottedAt s at = record {
     refreshed = be32At s (at + 44);
     epoch = be24At s (at + 48);
     identifier = be32At s (at + 51);
-    id = record { 0 = be16At s (at + 1) };
-    made = leb 128 (getD s (at + 11) 0);
+    id = be16At s (at + 1);
+    made = getD s (at + 11) 0 / 128;
     size = getD s (at + 11) 0 % 128;
     name = take 32 (drop (at + 12) s);
     places = replicate 4 noPlace;
@@ -51,7 +52,7 @@ callRecord s i = slottedAt s (4 + 55 * i)
 
 abbrev pub callBytes : ℕ → Call → List ℕ
 callBytes slot c =
-    slot ∷ bytes16 (c .id .0) ++ bytes32 (c .endpoint) ++ bytes32 (c .sender) ++ ((bit (c .made) * 128 + c .size) ∷ []) ++ c .name ++ bytes32 (c .refreshed)
+    slot ∷ bytes16 (c .id) ++ bytes32 (c .endpoint) ++ bytes32 (c .sender) ++ ((c .made * 128 + c .size) ∷ []) ++ c .name ++ bytes32 (c .refreshed)
     ++ bytes24 (c .epoch) ++ bytes32 (c .identifier)
 
 -- ---- a connection: end point 32 bits, Call ID 16, Tunnel ID 16, extended ID 32, sender 32, LSP ID 16

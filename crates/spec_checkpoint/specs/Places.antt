@@ -2,14 +2,14 @@
 use Prim.Native.Nat.{ℕ, suc, _<_}
 use mathlib.Core.Path.{_≡_}
 use mathlib.Core.Bool.{Bool, true}
-use Rattle.table.specs.declared.state.Table.{Table}
+use Rattle.table.specs.Table.{Table}
 use Rattle.table.specs.Total.{totalOf}
-use Rattle.table.specs.Lists.{customerAt, callAt, placeAt, standalonePlaceAt}
+use Rattle.table.specs.Lists.{customerAt, callAt, callFour, customerFour, placeAt, isTaken}
 
 -- of four places
 abbrev pub InOrder : (ℕ → Bool) → Type 0
 InOrder taken = (j : ℕ) → j < 3 → taken (suc j) ≡ true → taken j ≡ true
 
 pub record ClosedUp (t : Table) : Type 0 where
-  pub under : (i : ℕ) → i < totalOf t → InOrder (λ j. placeAt (callAt t i) j .taken)
-  pub standalone : (k : ℕ) → k < 8 → InOrder (λ j. standalonePlaceAt (customerAt t k) j .taken)
+  pub under : (i : ℕ) → i < totalOf t → InOrder (λ j. isTaken (placeAt (callFour (callAt t i)) j))
+  pub standalone : (k : ℕ) → k < 8 → InOrder (λ j. isTaken (placeAt (customerFour (customerAt t k)) j))

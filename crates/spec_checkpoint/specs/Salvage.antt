@@ -5,16 +5,15 @@ use mathlib.Core.Bool.{Bool, cond, not, _&&_, _||_}
 use lib.Dec.{ltb, eqb}
 use Rattle.lists.specs.Count.{count, has}
 use Rattle.lists.specs.Below.{below, everyBelow}
-use Rattle.table.specs.declared.state.Table.{Table}
+use Rattle.table.specs.Table.{Table}
 use Rattle.table.specs.Total.{totalOf}
 use Rattle.table.specs.Word.{isUsed, flipped}
 use Rattle.table.specs.Lists.{roster, idsOf, entries, Held, held}
 use Rattle.table.specs.Share.{listed}
 use Rattle.table.specs.Rules.{sameLong, sameLsp, rulesHold}
-use Rattle.spec_changes.specs.Calls.{withSlot}
+use Rattle.table.specs.Stores.{withSlot}
 use Rattle.spec_changes.specs.Connections.{sameFour, added, callMissing, isUnder}
-use Rattle.spec_checkpoint.specs.Layout.{callsIn, connectionsIn, callRecord, connectionRecord}
-use Rattle.spec_checkpoint.specs.declared.record.Slotted.{Slotted}
+use Rattle.spec_checkpoint.specs.Layout.{Slotted, callsIn, connectionsIn, callRecord, connectionRecord}
 
 -- the table with a call in the slot that its record names
 abbrev pub placed : Table → Slotted → Table

@@ -11,7 +11,7 @@ use borrow.Author.Tests.{eqb-true, eqb-false}
 use Rattle.lists.specs.Count.{bit, count, has, without}
 use Rattle.lists.proofs.Tests.{both}
 use Rattle.lists.proofs.Count.{true-has, false-has, count-le, count-split, count-without}
-use Rattle.table.specs.declared.state.Table.{Table}
+use Rattle.table.specs.Table.{Table}
 use Rattle.table.specs.Total.{totalOf}
 use Rattle.table.specs.Word.{lowestFree}
 use Rattle.table.specs.Lists.{roster, Ids, Entry, callAt, idsOf, entries, Held, held}
@@ -63,7 +63,7 @@ next-rules t = refl
 
 pub next-agrees : (t : Table) (l : List Entry) → Agrees t l → Agrees (identifierTaken t) l
 next-agrees t l g = record {
-  shape = record { calls = g .shape .calls; customers = g .shape .customers; word = g .shape .word; places = g .shape .places; standalonePlaces = g .shape .standalonePlaces };
+  shape = record { calls = g .shape .calls; customers = g .shape .customers; word = g .shape .word; places = g .shape .places; endpoints = g .shape .endpoints; standalonePlaces = g .shape .standalonePlaces };
   rules = next-rules t ∙ g .rules;
   calls = g .calls;
 }
@@ -78,11 +78,11 @@ module _ (t : Table) (l : List Entry) (g : Agrees t l) where
 
   -- ---- opening and closing
 
-  pub open-agrees : (c : Ids) → MayOpen (totalOf t) (roster t) (entries t) c → 0 < c .short → 0 < length (c .long) → length (c .long) ≤ 32
+  pub open-agrees : (c : Ids) → MayOpen (totalOf t) (roster t) (entries t) c → 0 < c .short → c .short < 0x10000 → 0 < length (c .long) → length (c .long) ≤ 32
       → Agrees (opened t c) (record { slot = lowestSlot l (totalOf t) 0; ids = c } ∷ l)
-  open-agrees c m short some most = record {
+  open-agrees c m short fits some most = record {
     shape = opened-shape t c (g .shape) free;
-    rules = kept-rules (opened t c) (opened-kept t c (g .shape) kept m (roster-kept t (kept .accepted) .apart) short some most);
+    rules = kept-rules (opened t c) (opened-kept t c (g .shape) kept m (roster-kept t (kept .accepted) .apart) short fits some most);
     calls = λ p. opened-entries t c (g .shape) free p ∙ rw (lowest-is t l (g .shape) (g .calls), g .calls p);
   }
     where

@@ -9,6 +9,7 @@ use mathlib.Core.Bool.{Bool, true, false, cond, _&&_}
 use lib.Dec.{eqb}
 use lib.ListN.{length}
 use borrow.Author.Tests.{eqb-true, eqb-false}
+use Rattle.numbers.specs.BigEndian.{Bytes}
 use Rattle.lists.specs.Count.{bit, count, without}
 use Rattle.lists.proofs.Tests.{both}
 use Rattle.lists.proofs.Count.{count-le, count-split, count-without, count-share}
@@ -16,7 +17,7 @@ use Rattle.messages.specs.declared.message.CallRequest.{CallRequest}
 use Rattle.messages.specs.declared.message.Message.the-variants.{Open, Close, Add, Drop}
 use Rattle.table.specs.declared.answer.RosterAnswer.{RosterAnswer}
 use Rattle.table.specs.declared.answer.RosterAnswer.the-variants.{Accepted, Short, Form, Length, SpareBits, Share, Repeated, Guarantees}
-use Rattle.table.specs.declared.state.Table.{Table}
+use Rattle.table.specs.Table.{Table}
 use Rattle.table.specs.Total.{total, totalOf}
 use Rattle.table.specs.Lists.{Terms, roster, Ids, Entry, entries, held}
 use Rattle.table.specs.Share.{listed, limitOf, from, callsOf}
@@ -33,7 +34,7 @@ use Rattle.spec_calls.specs.CallRules.{idsIn, isOpen, shortInUse, longInUse}
 use Rattle.spec_calls.specs.PathRules.{heldBy}
 use Rattle.spec_calls.specs.Handling.{formAnswer, answerFrom2}
 use Rattle.spec_promises.specs.Ledger.{Fed, fourOf, lowestSlot, feed, ledger, answered}
-use Rattle.spec_promises.specs.Promises.{Input, fed, tableThen, AtEveryStep, dueAnswer, Promised, Bytes, Agrees}
+use Rattle.spec_promises.specs.Promises.{Input, fed, tableThen, AtEveryStep, dueAnswer, Promised, Agrees}
 use Rattle.spec_calls.proofs.Decided.{open-never, open-same, close-never, add-never, drop-never}
 use Rattle.spec_promises.proofs.Due.{open-due}
 use Rattle.spec_promises.proofs.Formed.{Says, form-says}

@@ -13,7 +13,7 @@ use Rattle.lists.proofs.Tests.{both}
 use Rattle.lists.proofs.Count.{has-true, has-false, true-has, has-nothing, count-ext, count-split, count-without}
 use Rattle.messages.specs.declared.message.CallRequest.{CallRequest}
 use Rattle.messages.specs.declared.message.Message.the-variants.{Open, Close, Add, Drop}
-use Rattle.table.specs.declared.state.Table.{Table}
+use Rattle.table.specs.Table.{Table}
 use Rattle.table.specs.Total.{totalOf}
 use Rattle.table.specs.Lists.{roster, Ids, Entry, entries, Held, held}
 use Rattle.table.specs.Rules.{samePair, sameShort, sameLong, rulesHold}

@@ -6,16 +6,18 @@ use mathlib.Core.Path.{_≡_, refl}
 use mathlib.Core.List.{List}
 use mathlib.Core.Bool.{Bool, true, false, cond}
 use lib.ListN.{length}
+use Rattle.numbers.specs.BigEndian.{Bytes}
 use Rattle.lists.specs.Count.{count, without}
 use Rattle.messages.specs.declared.message.Connection.{Connection}
 use Rattle.messages.specs.declared.message.Message.the-variants.{Open, Close, Add, Drop}
 use Rattle.replies.proofs.Lengths.{part-length}
-use Rattle.table.specs.declared.state.Table.{Table}
+use Rattle.table.specs.Table.{Table}
 use Rattle.table.specs.Total.{totalOf}
 use Rattle.table.specs.Lists.{roster, Entry, entries, held}
 use Rattle.table.specs.Rules.{rulesHold}
 use Rattle.spec_changes.specs.Calls.{opened, isCall, closed, identifierTaken}
 use Rattle.spec_changes.specs.Connections.{added, removed, isUnder}
+use Rattle.spec_changes.proofs.Valid.{valid-place}
 use Rattle.spec_changes.proofs.Added.{MayAdd, added-roster}
 use Rattle.spec_changes.proofs.Removed.{removed-roster}
 use Rattle.answers.specs.Answers.{is, sendsNotify}
@@ -52,12 +54,12 @@ module _ (t : Table) (l : List Entry) (g : Agrees t l) where
   by-path false true u h = next-agrees t l g
   by-path false false u h = g
 
-  may-add-all : (s : List ℕ) (c : Connection) → Says (roster t) s (sound (Add c)) → is 23 (addAnswer (entries t) (held t) (heldBy c)) ≡ true → MayAdd t (heldBy c)
-  may-add-all s c i e =
+  may-add-all : (s : List ℕ) → Bytes s → (c : Connection) → Says (roster t) s (sound (Add c)) → is 23 (addAnswer (entries t) (held t) (heldBy c)) ≡ true → MayAdd t (heldBy c)
+  may-add-all s bytes c i e =
       let m = may-add (entries t) (held t) (heldBy c) e in
-      record { known = i .known; new = m .0; call = m .1; room = m .2 }
+      record { known = i .known; new = m .0; call = m .1; room = m .2; valid = valid-place (heldBy c .lsp) (i .inside .tunnelFits bytes) (i .inside .lspFits bytes) }
 
-  module _ (s : List ℕ) (room : ℕ) where
+  module _ (s : List ℕ) (bytes : Bytes s) (room : ℕ) where
     form-agrees : (f : Form) → Says (roster t) s f
         → Agrees (formTable t s f (formAnswer t s f)) (feed (totalOf t) (record { message = s; room = room; answer = formAnswer t s f }) l)
     form-agrees (faulty a) i = rw (i .not20, i .not22) g
@@ -65,7 +67,7 @@ module _ (t : Table) (l : List Entry) (g : Agrees t l) where
         let a = openAnswer (totalOf t) (roster t) (entries t) (idsIn s q) in
         rw (i .four, open-never (totalOf t) (roster t) (entries t) (idsIn s q) 22 refl refl refl refl refl)
         (by-answer (is 20 a) (sendsNotify a) (opened t (idsIn s q)) _
-        (λ e. open-agrees t l g (idsIn s q) (may-open (totalOf t) (roster t) (entries t) (idsIn s q) (i .known) e) (i .inside .callSome)
+        (λ e. open-agrees t l g (idsIn s q) (may-open (totalOf t) (roster t) (entries t) (idsIn s q) (i .known) e) (i .inside .callSome) (i .inside .callFits bytes)
         (rw (part-length s (q .name) (i .inside .name)) (i .inside .nameSome)) (rw (part-length s (q .name) (i .inside .name)) (i .inside .nameMost))))
     form-agrees (sound (Close q)) i =
         let a = closeAnswer (entries t) (held t) (idsIn s q) in
@@ -75,7 +77,7 @@ module _ (t : Table) (l : List Entry) (g : Agrees t l) where
     form-agrees (sound (Add c)) i =
         let a = addAnswer (entries t) (held t) (heldBy c) in
         rw (add-never (entries t) (held t) (heldBy c) 20 refl refl refl refl refl, add-never (entries t) (held t) (heldBy c) 22 refl refl refl refl refl)
-        (by-path (is 23 a) (sendsNotify a) (added t (heldBy c)) (λ e. add-agrees t l g (heldBy c) (may-add-all s c i e)))
+        (by-path (is 23 a) (sendsNotify a) (added t (heldBy c)) (λ e. add-agrees t l g (heldBy c) (may-add-all s bytes c i e)))
     form-agrees (sound (Drop c)) i =
         let a = dropAnswer (held t) (heldBy c) in
         rw (drop-never (entries t) (held t) (heldBy c) 20 refl refl, drop-never (entries t) (held t) (heldBy c) 22 refl refl)
@@ -87,7 +89,7 @@ module _ (t : Table) (l : List Entry) (g : Agrees t l) where
   step-agrees x =
       let room = length (x .buffer) in
       rw (answer-is t (x .message) room (g .rules))
-      (form-agrees (x .message) room (formOf (roster t) (x .message) room) (form-says (roster t) (x .message) room))
+      (form-agrees (x .message) (x .bytes) room (formOf (roster t) (x .message) room) (form-says (roster t) (x .message) room))
 
   -- ---- the roster stays
 
@@ -97,19 +99,19 @@ module _ (t : Table) (l : List Entry) (g : Agrees t l) where
   roster-by false true u h = refl
   roster-by false false u h = refl
 
-  form-roster : (s : List ℕ) (f : Form) → Says (roster t) s f → roster (formTable t s f (formAnswer t s f)) ≡ roster t
+  form-roster : (s : List ℕ) → Bytes s → (f : Form) → Says (roster t) s f → roster (formTable t s f (formAnswer t s f)) ≡ roster t
   unfolding opened closed
-  form-roster s (faulty a) i = refl
-  form-roster s (sound (Open q)) i =
+  form-roster s bytes (faulty a) i = refl
+  form-roster s bytes (sound (Open q)) i =
       let a = openAnswer (totalOf t) (roster t) (entries t) (idsIn s q) in
       roster-by (is 20 a) (sendsNotify a) (opened t (idsIn s q)) (λ e. refl)
-  form-roster s (sound (Close q)) i =
+  form-roster s bytes (sound (Close q)) i =
       let a = closeAnswer (entries t) (held t) (idsIn s q) in
       roster-by (is 22 a) (sendsNotify a) (closed t (idsIn s q)) (λ e. refl)
-  form-roster s (sound (Add c)) i =
+  form-roster s bytes (sound (Add c)) i =
       let a = addAnswer (entries t) (held t) (heldBy c) in
-      roster-by (is 23 a) (sendsNotify a) (added t (heldBy c)) (λ e. added-roster t (heldBy c) (g .shape) (may-add-all s c i e))
-  form-roster s (sound (Drop c)) i =
+      roster-by (is 23 a) (sendsNotify a) (added t (heldBy c)) (λ e. added-roster t (heldBy c) (g .shape) (may-add-all s bytes c i e))
+  form-roster s bytes (sound (Drop c)) i =
       let a = dropAnswer (held t) (heldBy c) in
       roster-by (is 25 a) (sendsNotify a) (removed t (heldBy c)) (λ e. removed-roster t (heldBy c) (g .shape) (may-drop (entries t) (held t) (heldBy c) e))
 
@@ -118,7 +120,7 @@ module _ (t : Table) (l : List Entry) (g : Agrees t l) where
   step-roster x =
       let room = length (x .buffer) in
       rw (answer-is t (x .message) room (g .rules))
-      (form-roster (x .message) (formOf (roster t) (x .message) room) (form-says (roster t) (x .message) room))
+      (form-roster (x .message) (x .bytes) (formOf (roster t) (x .message) room) (form-says (roster t) (x .message) room))
 
   -- ---- 22 is given only to a call of the ledger that has no connections
   form-closes : (s : List ℕ) (f : Form) → Says (roster t) s f → is 22 (formAnswer t s f) ≡ true

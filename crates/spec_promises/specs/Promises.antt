@@ -1,16 +1,17 @@
 -- Demand 3, as one statement over a whole list of messages (01, The ledger behind demand 3).
-use Prim.Native.Nat.{ℕ, _+_, _≤_, _<_}
+use Prim.Native.Nat.{ℕ, _+_, _≤_}
 use mathlib.Core.Path.{_≡_}
 use mathlib.Core.Logic.{_⊎_, _≢_}
 use mathlib.Core.List.{List, [], _∷_}
 use mathlib.Core.Bool.{Bool, true, false, cond, _||_}
 use lib.Dec.{ltb, eqb}
-use lib.ListN.{length, getD}
+use lib.ListN.{length}
+use Rattle.numbers.specs.BigEndian.{Bytes}
 use Rattle.numbers.specs.Search.{isIn}
 use Rattle.lists.specs.Count.{count}
 use Rattle.messages.specs.declared.message.CallRequest.{CallRequest}
 use Rattle.messages.specs.declared.message.Message.the-variants.{Open}
-use Rattle.table.specs.declared.state.Table.{Table}
+use Rattle.table.specs.Table.{Table}
 use Rattle.table.specs.Lists.{Terms, Ids, Entry, entries}
 use Rattle.table.specs.Share.{listed, guaranteeOf, limitOf, callsOf, S}
 use Rattle.table.specs.Rules.{rulesHold}
@@ -21,9 +22,10 @@ use Rattle.spec_calls.specs.CallRules.{idsIn, isOpen, shortInUse, longInUse}
 use Rattle.spec_calls.specs.Handling.{answerFrom2, handled}
 use Rattle.spec_promises.specs.Ledger.{Fed, ledger, answered}
 
--- what the caller hands in beside the table
+-- what the caller hands in beside the table; a message is a byte string
 pub record Input : Type 0 where
   pub message : List ℕ
+  pub bytes : Bytes message
   pub buffer : List ℕ
 
 abbrev pub fed : Table → Input → Fed
@@ -64,10 +66,6 @@ pub record Promised (total : ℕ) (r : List Terms) (start : List Entry) (t : Tab
       → longInUse (ledger total start h) (idsIn (x .message) q) ≡ false
       → shortInUse (ledger total start h) (idsIn (x .message) q) ≡ false
       → answerNumber (fed t x .answer) ≡ dueAnswer total r (ledger total start h) (q .sender)
-
--- a byte string: every number is below 256
-abbrev pub Bytes : List ℕ → Type 0
-Bytes s = (k : ℕ) → getD s k 0 < 256
 
 -- a table that keeps the rules, and whose open calls are a ledger's entries, in any order
 pub record Agrees (t : Table) (l : List Entry) : Type 0 where

@@ -17,7 +17,7 @@ use Rattle.messages.specs.Read.{isCallRequest, badIdentity, notifyOf, pathOf, r
 use Rattle.lists.specs.Below.{when, listIf, below, everyBelow, firstBelow}
 use Rattle.table.specs.Zeros.{noCall, noCustomer, emptyTable}
 use Rattle.table.specs.Share.{S}
-use Rattle.table.specs.Rules.{badShare, acceptable, rosterHolds, sameBytes, sameShort, sameLong, validIds, sameLsp, placeClear, standalonePlaceClear, callFreeClear, callClear, customerFreeClear, customerClear, rulesHold}
+use Rattle.table.specs.Rules.{badShare, acceptable, rosterHolds, sameBytes, sameShort, sameLong, validIds, sameLsp, placeClear, placeValid, callFreeClear, callClear, customerFreeClear, customerClear, rulesHold}
 use Rattle.table.specs.Roster.{badForm, recordsAnswer, rosterAnswer, customersFrom, freshTable, tableFor}
 use Rattle.spec_changes.specs.Calls.{opened, closed}
 use Rattle.spec_changes.specs.Connections.{addedUnder, removedUnder, added, removed}
@@ -28,5 +28,5 @@ use Rattle.spec_calls.specs.Handling.{answerOf, tableAfter, replyAfter}
 use Rattle.starred_cases.specs.TwoCustomers.{expected, outcomes, cases}
 
 pub cases-hold : outcomes emptyTable cases ≡ map expected cases
-unfolding cases trailingZeros atFront isIn zerosAt passedOver refusedClass hasForm attributeFormed formed misformed badLength itemAt seen objectsOf walkFrom walkOf badMessageLength checksumHolds typeOf headerOf notifyComplete pathComplete connectionAt requestAt isCallRequest badIdentity notifyOf pathOf readOf when listIf below everyBelow firstBelow noCall noCustomer emptyTable S badShare acceptable rosterHolds sameBytes sameShort sameLong validIds sameLsp placeClear standalonePlaceClear callFreeClear callClear customerFreeClear customerClear rulesHold badForm recordsAnswer rosterAnswer customersFrom freshTable tableFor opened closed addedUnder removedUnder added removed listedOr11 formOf shareUsedUp openAnswer closeAnswer addAnswer dropAnswer answerOf tableAfter replyAfter
+unfolding cases trailingZeros atFront isIn zerosAt passedOver refusedClass hasForm attributeFormed formed misformed badLength itemAt seen objectsOf walkFrom walkOf badMessageLength checksumHolds typeOf headerOf notifyComplete pathComplete connectionAt requestAt isCallRequest badIdentity notifyOf pathOf readOf when listIf below everyBelow firstBelow noCall noCustomer emptyTable S badShare acceptable rosterHolds sameBytes sameShort sameLong validIds sameLsp placeClear placeValid callFreeClear callClear customerFreeClear customerClear rulesHold badForm recordsAnswer rosterAnswer customersFrom freshTable tableFor opened closed addedUnder removedUnder added removed listedOr11 formOf shareUsedUp openAnswer closeAnswer addAnswer dropAnswer answerOf tableAfter replyAfter
 cases-hold = refl

@@ -5,16 +5,11 @@ use mathlib.Core.Bool.{Bool, true, false, _&&_}
 use lib.Dec.{eqb}
 use lib.ListN.{length, replicate}
 use Rattle.numbers.specs.BigEndian.{bytes16, bytes32}
-use Rattle.lists.specs.Count.{bit}
 use Rattle.lists.specs.Below.{below, everyBelow}
 use Rattle.table.specs.declared.answer.RosterAnswer.{RosterAnswer}
-use Rattle.table.specs.declared.state.Place.{Place}
-use Rattle.table.specs.declared.state.Call.{Call}
-use Rattle.table.specs.declared.state.StandalonePlace.{StandalonePlace}
-use Rattle.table.specs.declared.state.Customer.{Customer}
-use Rattle.table.specs.declared.state.Table.{Table}
+use Rattle.table.specs.Table.{Call, Table}
 use Rattle.table.specs.Total.{totalOf}
-use Rattle.table.specs.Lists.{customerAt, roster, callAt, entries, placeAt, standalonePlaceAt}
+use Rattle.table.specs.Lists.{customerAt, roster, callAt, entries, Four, callFour, customerFour, placeAt}
 use Rattle.table.specs.Share.{S}
 use Rattle.table.specs.Rules.{sameBytes}
 use Rattle.table.specs.Roster.{rosterNumber, rosterAnswer, tableFor}
@@ -42,24 +37,19 @@ expected (ask before message outcome) = outcome
 
 -- ---- calls and connections are as they were
 
-abbrev placeNumbers : Place → List ℕ
-placeNumbers p = bit (p .taken) ∷ p .tunnel .0 ∷ p .extended ∷ p .lsp .0 ∷ []
+-- what four places say, as numbers
+abbrev fourNumbers : Four → List ℕ
+fourNumbers f = below (λ j. f .endpoint j ∷ placeAt f j .taken ∷ placeAt f j .tunnel ∷ placeAt f j .extended ∷ placeAt f j .lsp ∷ []) 4
 
-abbrev standalonePlaceNumbers : StandalonePlace → List ℕ
-standalonePlaceNumbers p = bit (p .taken) ∷ p .endpoint ∷ p .tunnel .0 ∷ p .extended ∷ p .lsp .0 ∷ []
-
--- what a slot says, as numbers, but for the fields of later requests, which a table rule holds at zero
+-- what a slot says, but for the fields of later requests, which a table rule holds at zero
 abbrev callNumbers : Call → List ℕ
-callNumbers c = c .endpoint ∷ c .sender ∷ c .id .0 ∷ c .size ∷ (c .name ++ below (λ j. placeNumbers (placeAt c j)) 4)
-
-abbrev standaloneNumbers : Customer → List ℕ
-standaloneNumbers c = below (λ j. standalonePlaceNumbers (standalonePlaceAt c j)) 4
+callNumbers c = c .endpoint ∷ c .sender ∷ c .id ∷ c .size ∷ (c .name ++ fourNumbers (callFour c))
 
 abbrev unchanged : Table → Table → Bool
 unchanged t u =
     eqb (t .occupied) (u .occupied)
     && everyBelow (λ i. sameBytes (callNumbers (callAt t i)) (callNumbers (callAt u i))) (totalOf t)
-    && everyBelow (λ k. sameBytes (standaloneNumbers (customerAt t k)) (standaloneNumbers (customerAt u k))) 8
+    && everyBelow (λ k. sameBytes (fourNumbers (customerFour (customerAt t k))) (fourNumbers (customerFour (customerAt u k)))) 8
 
 -- ---- the run
 

@@ -7,10 +7,11 @@ use mathlib.Core.Path.{_≡_, refl, sym, _∙_}
 use mathlib.Core.List.{List, [], _∷_}
 use mathlib.Core.Bool.{Bool, true, false, cond, not, _||_}
 use lib.Dec.{ltb, eqb}
-use lib.ListN.{length, getD, replicate, getD-replicate}
+use lib.ListN.{length, replicate, getD-replicate}
 use borrow.Author.Tests.{eqb-false, ne-eqb, ltb-false, lt-ltb, le-ltb, le-leb}
-use Rattle.numbers.specs.BigEndian.{be24At, be32At}
+use Rattle.numbers.specs.BigEndian.{Bytes, be24At, be32At}
 use Rattle.numbers.specs.Search.{zerosAt}
+use Rattle.numbers.proofs.BigEndian.{be24-bound}
 use Rattle.lists.specs.Count.{has, noTwo}
 use Rattle.lists.specs.Below.{when, listIf, below, everyBelow}
 use Rattle.lists.proofs.Count.{sum-ext, has-nothing}
@@ -19,13 +20,13 @@ use Rattle.lists.proofs.Pairs.{no-two-append, meet-element}
 use Rattle.lists.proofs.Tests.{eqb-swap}
 use Rattle.table.specs.declared.answer.RosterAnswer.{RosterAnswer}
 use Rattle.table.specs.declared.answer.RosterAnswer.the-variants.{Accepted, Short, Form, Length, SpareBits, Share, Repeated, Guarantees}
-use Rattle.table.specs.declared.state.Table.{Table}
+use Rattle.table.specs.Table.{Table}
 use Rattle.table.specs.Total.{total}
 use Rattle.table.specs.Word.{isUsed}
 use Rattle.table.specs.Zeros.{noCall, noCustomer, emptyTable, pastCall, pastCustomer}
-use Rattle.table.specs.Lists.{Terms, customerAt, termsOf, listedAt, roster, openAt, entries, heldAt, standaloneIn, standaloneAt, held}
+use Rattle.table.specs.Lists.{Terms, customerAt, termsOf, listedAt, roster, openAt, entries, heldAt, customerFour, heldIn, standaloneAt, held}
 use Rattle.table.specs.Share.{isAt, S}
-use Rattle.table.specs.Rules.{badShare, sameAddress, guarantees, acceptable, rosterHolds, overLimit, placeClear, standalonePlaceClear, callClear, customerFreeClear, customerClear, slotFreeClear, recordFreeClear, withinLimits, shareWithinTotal, namesAndIds, holds, rulesHold}
+use Rattle.table.specs.Rules.{badShare, sameAddress, guarantees, acceptable, rosterHolds, overLimit, placeClear, placeValid, callClear, customerFreeClear, customerClear, slotFreeClear, recordFreeClear, withinLimits, shareWithinTotal, namesAndIds, holds, rulesHold}
 use Rattle.table.specs.Roster.{rosterNumber, formIn, customersIn, termsIn, spareIn, recordsIn, badForm, recordsAnswer, rosterAnswer, customerIn, customersFrom, freshTable}
 
 -- ---- a table with no calls and no connections
@@ -33,7 +34,7 @@ use Rattle.table.specs.Roster.{rosterNumber, formIn, customersIn, termsI
 all-free : (i : ℕ) → isUsed 0 i ≡ false
 all-free i = rw zero-div
 
-free-clear : callClear noCall ≡ true
+pub free-clear : callClear noCall ≡ true
 unfolding noCall callClear zerosAt everyBelow placeClear
 free-clear = refl
 
@@ -77,7 +78,7 @@ module _ (address epoch : ℕ) (s : List ℕ) (n : ℕ) where
   unfolding listIf when below
   none-standalone k h = rw (customer-at k h) (by (ltb k n))
     where
-      by : (b : Bool) → listIf b (standaloneIn (cond b (customerIn s k) noCustomer)) ≡ []
+      by : (b : Bool) → listIf b (heldIn (customerFour (cond b (customerIn s k) noCustomer))) ≡ []
       by true = refl
       by false = refl
 
@@ -103,7 +104,7 @@ module _ (address epoch : ℕ) (s : List ℕ) (n : ℕ) where
   slot-free-clear i h = rw (all-free i, getD-replicate 64 i noCall pastCall h) free-clear
 
   record-free-clear : (k : ℕ) → k < 8 → recordFreeClear idle k ≡ true
-  unfolding noCustomer customerFreeClear customerClear everyBelow standalonePlaceClear
+  unfolding noCustomer customerFreeClear customerClear everyBelow placeClear placeValid
   record-free-clear k h = rw (customer-at k h) (by (ltb k n))
     where
       by : (b : Bool) → cond b (customerFreeClear (cond b (customerIn s k) noCustomer)) (customerClear (cond b (customerIn s k) noCustomer)) ≡ true
@@ -173,8 +174,7 @@ good-acceptable : (r : List Terms) → Good r → acceptable total r ≡ true
 unfolding acceptable
 good-acceptable r g = rw (g .shares, g .apart, le-leb (guarantees r) total (g .sum))
 
--- the bytes are below 256, as those of a slice are
-pub fresh-holds : (s : List ℕ) → ((k : ℕ) → getD s k 0 < 256) → rosterAnswer s ≡ Accepted → rulesHold (freshTable s) ≡ true
+pub fresh-holds : (s : List ℕ) → Bytes s → rosterAnswer s ≡ Accepted → rulesHold (freshTable s) ≡ true
 unfolding rosterAnswer freshTable rosterHolds below
 fresh-holds s bytes h =
     let n = customersIn s in
@@ -183,9 +183,8 @@ fresh-holds s bytes h =
     let l = passed (not (eqb (length s) (8 + 6 * n))) Length _ refl (f .1) in
     let c = good-count s (f .0) in
     let g = records-good s 0 n n (zero-add n) refl refl (l .1) in
-    let e : be24At s 5 < 0x1000000 = omega (arith, bytes 5, bytes 6, bytes 7) in
     idle-holds (be32At s 1) (be24At s 5) s n (c .1) (g .sum)
-    (rw (ne-eqb n 0 (omega arith), le-leb n 8 (c .1), lt-ltb (be24At s 5) 0x1000000 e, roster-is (be32At s 1) (be24At s 5) s n (c .1)) (good-acceptable (recordsIn s n) g))
+    (rw (ne-eqb n 0 (omega arith), le-leb n 8 (c .1), lt-ltb (be24At s 5) 0x1000000 (be24-bound s 5 bytes), roster-is (be32At s 1) (be24At s 5) s n (c .1)) (good-acceptable (recordsIn s n) g))
 
 -- ---- what the table of an accepted roster shows: the roster as read, no calls, no connections
 

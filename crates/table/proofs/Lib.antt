@@ -1,4 +1,7 @@
-pub mod Slots
 pub mod Ones
-pub mod Fresh
 pub mod SameBytes
+pub mod Slots
+pub mod Fresh
+pub mod Cells
+pub mod Names
+pub mod Told

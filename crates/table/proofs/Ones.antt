@@ -16,7 +16,7 @@ use Rattle.lists.proofs.Count.{count-all}
 use Rattle.lists.proofs.Below.{count-none, count-below, count-when}
 use Rattle.table.specs.Word.{isUsed}
 use Rattle.table.specs.Lists.{Entry, openAt, entries, idsOf, callAt}
-use Rattle.table.specs.declared.state.Table.{Table}
+use Rattle.table.specs.Table.{Table}
 
 digit : (d : ℕ) → d < 2 → ones d ≡ bit (eqb d 1)
 digit zero h = ones-ones 0

@@ -2,17 +2,14 @@
 -- three.
 use Prim.Native.Nat.{ℕ}
 use mathlib.Core.List.{List, _++_}
-use lib.Dec.{ltb}
+use mathlib.Core.Bool.{Bool}
+use lib.Dec.{eqb, ltb}
 use lib.ListN.{take, getD}
 use Rattle.lists.specs.Below.{when, listIf, below}
-use Rattle.table.specs.declared.state.Place.{Place}
-use Rattle.table.specs.declared.state.Call.{Call}
-use Rattle.table.specs.declared.state.StandalonePlace.{StandalonePlace}
-use Rattle.table.specs.declared.state.Customer.{Customer}
-use Rattle.table.specs.declared.state.Table.{Table}
+use Rattle.table.specs.Table.{Place, Call, Customer, Table}
 use Rattle.table.specs.Total.{totalOf}
 use Rattle.table.specs.Word.{isUsed}
-use Rattle.table.specs.Zeros.{noPlace, noStandalonePlace, pastCall, pastCustomer}
+use Rattle.table.specs.Zeros.{noPlace, pastCall, pastCustomer}
 
 -- ---- the roster: a customer's address, guarantee and limit
 
@@ -51,7 +48,7 @@ callAt t i = getD (t .calls) i pastCall
 
 -- the long Call ID is exactly the name's `size` bytes
 abbrev pub idsOf : Call → Ids
-idsOf c = record { endpoint = c .endpoint; sender = c .sender; short = c .id .0; long = take (c .size) (c .name) }
+idsOf c = record { endpoint = c .endpoint; sender = c .sender; short = c .id; long = take (c .size) (c .name) }
 
 abbrev pub openAt : Table → ℕ → List Entry
 openAt t i = when (isUsed (t .occupied) i) (record { slot = i; ids = idsOf (callAt t i) })
@@ -73,39 +70,50 @@ pub record Held : Type 0 where
   pub call : ℕ
   pub lsp : Lsp
 
+-- four places for connections (01, Share): their Call ID and sender, and the end point by place
+pub record Four : Type 0 where
+  pub call : ℕ
+  pub sender : ℕ
+  pub endpoint : ℕ → ℕ
+  pub places : List Place
+
 -- under a call, end point and sender are the call's
-abbrev pub underCall : Call → Place → Held
-underCall c p =
-    record { call = c .id .0; lsp = record { endpoint = c .endpoint; tunnel = p .tunnel .0; extended = p .extended; sender = c .sender; lspId = p .lsp .0 } }
-
-abbrev pub placeAt : Call → ℕ → Place
-placeAt c j = getD (c .places) j noPlace
-
-abbrev pub heldPlace : Call → ℕ → List Held
-heldPlace c j = when (placeAt c j .taken) (underCall c (placeAt c j))
-
-abbrev pub heldIn : Call → List Held
-heldIn c = below (heldPlace c) 4
-
-abbrev pub heldAt : Table → ℕ → List Held
-heldAt t i = listIf (isUsed (t .occupied) i) (heldIn (callAt t i))
+abbrev pub callFour : Call → Four
+callFour c = record { call = c .id; sender = c .sender; endpoint = λ j. c .endpoint; places = c .places }
 
 -- with Call ID 0, the sender is the customer
-abbrev pub withNoCall : Customer → StandalonePlace → Held
-withNoCall c p =
-    record { call = 0; lsp = record { endpoint = p .endpoint; tunnel = p .tunnel .0; extended = p .extended; sender = c .address; lspId = p .lsp .0 } }
+abbrev pub customerFour : Customer → Four
+customerFour m = record { call = 0; sender = m .address; endpoint = λ j. getD (m .endpoints) j 0; places = m .places }
 
-abbrev pub standalonePlaceAt : Customer → ℕ → StandalonePlace
-standalonePlaceAt c j = getD (c .places) j noStandalonePlace
+abbrev pub placeAt : Four → ℕ → Place
+placeAt f j = getD (f .places) j noPlace
 
-abbrev pub standalonePlace : Customer → ℕ → List Held
-standalonePlace c j = when (standalonePlaceAt c j .taken) (withNoCall c (standalonePlaceAt c j))
+abbrev pub isTaken : Place → Bool
+isTaken p = eqb (p .taken) 1
 
-abbrev pub standaloneIn : Customer → List Held
-standaloneIn c = below (standalonePlace c) 4
+abbrev pub connectionAt : Four → ℕ → Held
+connectionAt f j = record {
+  call = f .call;
+  lsp = record {
+    endpoint = f .endpoint j;
+    tunnel = placeAt f j .tunnel;
+    extended = placeAt f j .extended;
+    sender = f .sender;
+    lspId = placeAt f j .lsp;
+  };
+}
+
+abbrev pub heldPlace : Four → ℕ → List Held
+heldPlace f j = when (isTaken (placeAt f j)) (connectionAt f j)
+
+abbrev pub heldIn : Four → List Held
+heldIn f = below (heldPlace f) 4
+
+abbrev pub heldAt : Table → ℕ → List Held
+heldAt t i = listIf (isUsed (t .occupied) i) (heldIn (callFour (callAt t i)))
 
 abbrev pub standaloneAt : Table → ℕ → List Held
-standaloneAt t k = listIf (ltb k (t .listed)) (standaloneIn (customerAt t k))
+standaloneAt t k = listIf (ltb k (t .listed)) (heldIn (customerFour (customerAt t k)))
 
 abbrev pub held : Table → List Held
 held t = below (heldAt t) (totalOf t) ++ below (standaloneAt t) 8

@@ -9,10 +9,9 @@ use Rattle.lists.specs.Count.{has}
 use Rattle.lists.specs.Below.{below}
 use Rattle.table.specs.declared.answer.RosterAnswer.{RosterAnswer}
 use Rattle.table.specs.declared.answer.RosterAnswer.the-variants.{Accepted, Short, Form, Length, SpareBits, Share, Repeated, Guarantees}
-use Rattle.table.specs.declared.state.Customer.{Customer}
-use Rattle.table.specs.declared.state.Table.{Table}
+use Rattle.table.specs.Table.{Customer, Table}
 use Rattle.table.specs.Total.{total}
-use Rattle.table.specs.Zeros.{noStandalonePlace, noCall, noCustomer, emptyTable}
+use Rattle.table.specs.Zeros.{noPlace, noCall, noCustomer, emptyTable}
 use Rattle.table.specs.Lists.{Terms}
 use Rattle.table.specs.Share.{isAt}
 use Rattle.table.specs.Rules.{badShare, guarantees}
@@ -74,7 +73,8 @@ customerIn s k =
       address = termsIn s k .address;
       guarantee = termsIn s k .guarantee;
       limit = termsIn s k .limit;
-      places = replicate 4 noStandalonePlace;
+      endpoints = replicate 4 0;
+      places = replicate 4 noPlace;
     }
 
 -- the first n records, and unused ones behind them

@@ -11,14 +11,10 @@ use lib.Dec.{ltb, leb, eqb}
 use Rattle.numbers.specs.Search.{zerosAt}
 use Rattle.lists.specs.Count.{has, sumOf, noTwo}
 use Rattle.lists.specs.Below.{everyBelow}
-use Rattle.table.specs.declared.state.Place.{Place}
-use Rattle.table.specs.declared.state.Call.{Call}
-use Rattle.table.specs.declared.state.StandalonePlace.{StandalonePlace}
-use Rattle.table.specs.declared.state.Customer.{Customer}
-use Rattle.table.specs.declared.state.Table.{Table}
+use Rattle.table.specs.Table.{Place, Call, Customer, Table}
 use Rattle.table.specs.Total.{totalOf}
 use Rattle.table.specs.Word.{isUsed}
-use Rattle.table.specs.Lists.{Terms, customerAt, roster, Ids, Entry, callAt, entries, placeAt, Held, standalonePlaceAt, held}
+use Rattle.table.specs.Lists.{Terms, customerAt, roster, Ids, Entry, callAt, entries, Held, Four, callFour, customerFour, placeAt, isTaken, held}
 use Rattle.table.specs.Share.{listed, callsOf, S}
 
 -- ---- an acceptable roster (01, The roster: 44, 45, 46)
@@ -69,9 +65,9 @@ sameShort c d = samePair c d && eqb (c .short) (d .short)
 unfoldable pub sameLong : Ids → Ids → Bool
 sameLong c d = samePair c d && sameBytes (c .long) (d .long)
 
--- a name of 1 to 32 bytes, and a Call ID that is not 0
+-- a name of 1 to 32 bytes, and a Call ID of sixteen bits that is not 0
 unfoldable pub validIds : Call → Bool
-validIds c = not (eqb (c .id .0) 0) && not (eqb (c .size) 0) && leb (c .size) 32
+validIds c = not (eqb (c .id) 0) && ltb (c .id) 0x10000 && not (eqb (c .size) 0) && leb (c .size) 32
 
 -- ---- connections
 
@@ -87,32 +83,40 @@ sameLsp x y =
 
 -- a place that is not taken
 unfoldable pub placeClear : Place → Bool
-placeClear p = not (p .taken) && eqb (p .tunnel .0) 0 && eqb (p .extended) 0 && eqb (p .lsp .0) 0
+placeClear p = eqb (p .taken) 0 && eqb (p .tunnel) 0 && eqb (p .extended) 0 && eqb (p .lsp) 0
 
-unfoldable pub standalonePlaceClear : StandalonePlace → Bool
-standalonePlaceClear p = not (p .taken) && eqb (p .endpoint) 0 && eqb (p .tunnel .0) 0 && eqb (p .extended) 0 && eqb (p .lsp .0) 0
+-- taken, with a Tunnel ID and an LSP ID of sixteen bits, or free: a mark other than 0 and 1 is neither
+unfoldable pub placeValid : Place → Bool
+placeValid p = cond (isTaken p) (ltb (p .tunnel) 0x10000 && ltb (p .lsp) 0x10000) (placeClear p)
+
+abbrev pub fourClear : Four → Bool
+fourClear f = everyBelow (λ j. placeClear (placeAt f j)) 4
+
+abbrev pub fourValid : Four → Bool
+fourValid f = everyBelow (λ j. placeValid (placeAt f j)) 4
 
 -- what requests A6 and A7 will use: the mark of a call that the node made, its request's epoch and identifier, the last
 -- refresh
 abbrev pub unusedClear : Call → Bool
-unusedClear c = not (c .made) && eqb (c .refreshed) 0 && eqb (c .epoch) 0 && eqb (c .identifier) 0
+unusedClear c = eqb (c .made) 0 && eqb (c .refreshed) 0 && eqb (c .epoch) 0 && eqb (c .identifier) 0
 
 -- a call's places, those taken excepted; the bytes past its name; what is not in use yet
 unfoldable pub callFreeClear : Call → Bool
-callFreeClear c = unusedClear c && zerosAt (c .name) (c .size) (32 - c .size) && everyBelow (λ j. placeAt c j .taken || placeClear (placeAt c j)) 4
+callFreeClear c = unusedClear c && zerosAt (c .name) (c .size) (32 - c .size) && fourValid (callFour c)
 
 -- a free slot
 unfoldable pub callClear : Call → Bool
-callClear c =
-    unusedClear c && eqb (c .endpoint) 0 && eqb (c .sender) 0 && eqb (c .id .0) 0 && eqb (c .size) 0 && zerosAt (c .name) 0 32
-    && everyBelow (λ j. placeClear (placeAt c j)) 4
+callClear c = unusedClear c && eqb (c .endpoint) 0 && eqb (c .sender) 0 && eqb (c .id) 0 && eqb (c .size) 0 && zerosAt (c .name) 0 32 && fourClear (callFour c)
 
+-- an end point stands beside a taken place
 unfoldable pub customerFreeClear : Customer → Bool
-customerFreeClear c = everyBelow (λ j. standalonePlaceAt c j .taken || standalonePlaceClear (standalonePlaceAt c j)) 4
+customerFreeClear c =
+    fourValid (customerFour c) && everyBelow (λ j. isTaken (placeAt (customerFour c) j) || eqb (customerFour c .endpoint j) 0) 4
 
 -- an unused roster record
 unfoldable pub customerClear : Customer → Bool
-customerClear c = eqb (c .address) 0 && eqb (c .guarantee) 0 && eqb (c .limit) 0 && everyBelow (λ j. standalonePlaceClear (standalonePlaceAt c j)) 4
+customerClear c =
+    eqb (c .address) 0 && eqb (c .guarantee) 0 && eqb (c .limit) 0 && fourClear (customerFour c) && everyBelow (λ j. eqb (customerFour c .endpoint j) 0) 4
 
 abbrev pub slotFreeClear : Table → ℕ → Bool
 slotFreeClear t i = cond (isUsed (t .occupied) i) (callFreeClear (callAt t i)) (callClear (callAt t i))

@@ -1,7 +1,7 @@
 -- How many calls the table holds (01, The roster): the one definition that says so. The code's constants are SLOTS and
--- TOTAL of table/src/state.rt.
+-- TOTAL of table/src/layout.rt.
 use Prim.Native.Nat.{ℕ}
-use Rattle.table.specs.declared.state.Table.{Table}
+use Rattle.table.specs.Table.{Table}
 
 abbrev pub total : ℕ
 total = 64

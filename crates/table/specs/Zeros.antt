@@ -1,20 +1,12 @@
 -- What is free holds zeros (01, Share): free places, free slots, unused roster records; and the empty table of a
 -- refused roster.
 use mathlib.Core.List.{[]}
-use mathlib.Core.Bool.{false}
 use lib.ListN.{replicate}
-use Rattle.table.specs.declared.state.Place.{Place}
-use Rattle.table.specs.declared.state.Call.{Call}
-use Rattle.table.specs.declared.state.StandalonePlace.{StandalonePlace}
-use Rattle.table.specs.declared.state.Customer.{Customer}
-use Rattle.table.specs.declared.state.Table.{Table}
+use Rattle.table.specs.Table.{Place, Call, Customer, Table}
 use Rattle.table.specs.Total.{total}
 
 abbrev pub noPlace : Place
-noPlace = record { taken = false; tunnel = record { 0 = 0 }; extended = 0; lsp = record { 0 = 0 } }
-
-abbrev pub noStandalonePlace : StandalonePlace
-noStandalonePlace = record { taken = false; endpoint = 0; tunnel = record { 0 = 0 }; extended = 0; lsp = record { 0 = 0 } }
+noPlace = record { taken = 0; tunnel = 0; extended = 0; lsp = 0 }
 
 unfoldable pub noCall : Call
 noCall = record {
@@ -23,15 +15,15 @@ noCall = record {
   refreshed = 0;
   epoch = 0;
   identifier = 0;
-  id = record { 0 = 0 };
-  made = false;
+  id = 0;
+  made = 0;
   size = 0;
   name = replicate 32 0;
   places = replicate 4 noPlace;
 }
 
 unfoldable pub noCustomer : Customer
-noCustomer = record { address = 0; guarantee = 0; limit = 0; places = replicate 4 noStandalonePlace }
+noCustomer = record { address = 0; guarantee = 0; limit = 0; endpoints = replicate 4 0; places = replicate 4 noPlace }
 
 -- no customers, all zeros, next own identifier 1
 unfoldable pub emptyTable : Table
@@ -53,12 +45,12 @@ pastCall = record {
   refreshed = 0;
   epoch = 0;
   identifier = 0;
-  id = record { 0 = 0 };
-  made = false;
+  id = 0;
+  made = 0;
   size = 0;
   name = [];
   places = [];
 }
 
 abbrev pub pastCustomer : Customer
-pastCustomer = record { address = 0; guarantee = 0; limit = 0; places = [] }
+pastCustomer = record { address = 0; guarantee = 0; limit = 0; endpoints = []; places = [] }

@@ -1,5 +1,5 @@
-// The call table: what the node knows between two messages. It goes in by value and comes back by value.
+// The call table: what the node knows between two messages. The caller lends it as an array of words.
 pub mod answer;
 pub mod identifier;
-pub mod state;
+pub mod layout;
 pub mod word;

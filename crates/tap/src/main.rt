@@ -8,7 +8,8 @@ use node::handle::handle;
 use numbers::big_endian::get16;
 use rosters::read_roster;
 use table::answer::roster_number;
-use table::state::Table;
+use table::layout::WORDS;
+use table::layout::Words;
 
 enum Frame {
     End,
@@ -45,60 +46,44 @@ fn print_number(label: &[u8], n: u64) {
     io::print_decimal(STDOUT_FILENO, n);
 }
 
-// The table after a message, and whether to go on.
-struct Step {
-    go: bool,
-    table: Table,
-}
-
 // The message in the first `size` bytes of the space is the n-th.
-fn answer_message(t: Table, n: u64, space: &[u8], size: usize) -> Table {
+fn answer_message(t: &mut Words, n: u64, space: &[u8], size: usize) {
     if space.len() < size {
-        return t;
+        return;
     }
     let mut reply = [0u8; 256];
     let r = handle(t, &space[..size], &mut reply);
     let answer = r.answer;
-    let table = r.table;
     io::print_decimal(STDOUT_FILENO, n);
     print_number(b" ", number(answer) as u64);
     print_number(b" ", r.length as u64);
     io::write_all(STDOUT_FILENO, b"\n");
-    table
 }
 
-fn answer_next(t: Table, n: u64, space: &mut [u8]) -> Step {
+// Whether to go on after the next frame.
+fn answer_next(t: &mut Words, n: u64, space: &mut [u8]) -> bool {
     let f = next_frame(space);
     match f {
-        Frame::End => Step {
-            go: false,
-            table: t,
-        },
+        Frame::End => false,
         Frame::Cut => {
             print_cut();
-            Step {
-                go: false,
-                table: t,
-            }
+            false
         }
         Frame::Whole(size) => {
-            let table = answer_message(t, n, space, size);
-            Step { go: true, table }
+            answer_message(t, n, space, size);
+            true
         }
     }
 }
 
 // A proved loop has to end, and nothing says that the input does: it counts its messages, and no run has that many.
-fn answer_all(t: Table, space: &mut [u8]) {
-    let mut u = t;
+fn answer_all(t: &mut Words, space: &mut [u8]) {
     let mut n: u64 = 0;
     while n < u64::MAX {
         n += 1;
-        let s = answer_next(u, n, space);
-        if !s.go {
+        if !answer_next(t, n, space) {
             return;
         }
-        u = s.table;
     }
 }
 
@@ -106,12 +91,11 @@ fn answer_roster(space: &mut [u8], size: usize) {
     if space.len() < size {
         return;
     }
-    let r = read_roster(&space[..size]);
-    let answer = r.answer;
-    let table = r.table;
+    let mut t: Words = [0; WORDS];
+    let answer = read_roster(&mut t, &space[..size]);
     print_number(b"roster ", roster_number(answer) as u64);
     io::write_all(STDOUT_FILENO, b"\n");
-    answer_all(table, space);
+    answer_all(&mut t, space);
 }
 
 fn main() {

@@ -5,15 +5,22 @@ ghost use Rattle.objects.specs.Part.{Within};
 ghost use Rattle.table.specs.Total.{total};
 ghost use Rattle.table.specs.Word.{lowestFree, flipped};
 ghost use Rattle.table.specs.Zeros.{noCall};
-ghost use Rattle.spec_changes.specs.Calls.{withSlot, stored, opened, identifierTaken};
+ghost use Rattle.table.specs.Stores.{withSlot};
+ghost use Rattle.table.specs.Words.{callAtWord, tableOf};
+ghost use Rattle.spec_changes.specs.Calls.{stored, opened, identifierTaken};
 ghost use Rattle.spec_calls.specs.CallRules.{idsIn};
 use messages::message::CallRequest;
 use table::identifier::identifier_after;
-use table::state::Call;
-use table::state::Table;
-use table::state::no_call;
-use table::state::no_place;
-use table::word::lowest_free;
+use table::layout::Words;
+use table_words::calls::CallHead;
+use table_words::calls::CallWord;
+use table_words::calls::call_words;
+use table_words::calls::put_slot;
+use table_words::head::next;
+use table_words::head::occupied;
+use table_words::head::set_next;
+use table_words::head::set_occupied;
+use table_words::names::name_words;
 
 // One slot changes sides.
 pub fn flip(word: u64, slot: usize) -> u64
@@ -23,71 +30,56 @@ pub fn flip(word: u64, slot: usize) -> u64
     word ^ (1u64 << slot)
 }
 
-// A slot with the call and the word beside it. A slot is one of the sixty-four.
-pub fn with_slot(t: Table, word: u64, slot: usize, c: Call) -> Table
+// A slot changes sides, and holds these words. A slot is one of the table's.
+pub fn turn_slot(t: &mut Words, slot: usize, x: &[u32; 32])
     requires { ⌜ slot < total ⌝ }
-    ensures { λ r. ⌜ r ≡ withSlot t word slot c ⌝ }
+    ensures { λ _. ⌜ tableOf (now (t .exit)) ≡ withSlot (tableOf (now (t .entry))) (flipped (tableOf (now (t .entry)) .occupied) slot) slot (callAtWord (now (x .entry)) 0) ⌝ }
 {
-    let mut u = t;
-    u.calls[slot] = c;
-    u.occupied = word;
-    u
+    let word = occupied(t);
+    put_slot(t, slot, x);
+    set_occupied(t, flip(word, slot));
 }
 
-// The call of a request as a slot holds it. Its name lies within the message and fits the slot: the reading promises
-// that.
-fn new_call(msg: &[u8], q: CallRequest) -> Call
+// The words of a request's call. Its name lies within the message and fits the slot: the reading promises that.
+fn new_call(msg: &[u8], q: CallRequest) -> [u32; 32]
     requires { ⌜ Within (now msg) (q .name) × (q .name .size ≤ 32) ⌝ }
-    ensures { λ r. ⌜ r ≡ stored (idsIn (now (msg .entry)) q) ⌝ }
+    ensures { λ r. ⌜ callAtWord r 0 ≡ stored (idsIn (now (msg .entry)) q) ⌝ }
 {
-    let at = q.name.at;
-    let size = q.name.size;
-    let id = q.call;
-    let places = [no_place(); 4];
-    let mut name = [0u8; 32];
-    let mut k: usize = 0;
-    while k < size {
-        name[k] = msg[at + k];
-        k += 1;
-    }
-    Call {
+    let name = name_words(msg, q.name.at, q.name.size);
+    let c = CallHead {
         endpoint: q.endpoint,
         sender: q.sender,
         refreshed: 0,
         epoch: 0,
         identifier: 0,
-        id,
-        made: false,
-        size: size as u8,
-        name,
-        places,
-    }
+        id: CallWord(q.call.0 as u32),
+        made: 0,
+        size: q.name.size as u32,
+    };
+    call_words(c, &name)
 }
 
 // The request's call in the lowest free slot. The rules leave one free where a call may be opened.
-pub fn open_slot(t: Table, msg: &[u8], q: CallRequest) -> Table
-    requires { ⌜ Within (now msg) (q .name) × (q .name .size ≤ 32) × (lowestFree (t .occupied) < total) ⌝ }
-    ensures { λ r. ⌜ r ≡ opened t (idsIn (now (msg .entry)) q) ⌝ }
+pub fn open_slot(t: &mut Words, slot: usize, msg: &[u8], q: CallRequest)
+    requires { ⌜ Within (now msg) (q .name) × (q .name .size ≤ 32) × (slot ≡ lowestFree (tableOf (now t) .occupied)) × (slot < total) ⌝ }
+    ensures { λ _. ⌜ tableOf (now (t .exit)) ≡ opened (tableOf (now (t .entry))) (idsIn (now (msg .entry)) q) ⌝ }
 {
-    let word = t.occupied;
-    let slot = lowest_free(word);
-    let c = new_call(msg, q);
-    with_slot(t, flip(word, slot), slot, c)
+    let x = new_call(msg, q);
+    turn_slot(t, slot, &x);
 }
 
 // A slot free again, with zeros in it.
-pub fn close_slot(t: Table, slot: usize) -> Table
+pub fn close_slot(t: &mut Words, slot: usize)
     requires { ⌜ slot < total ⌝ }
-    ensures { λ r. ⌜ r ≡ withSlot t (flipped (t .occupied) slot) slot noCall ⌝ }
+    ensures { λ _. ⌜ tableOf (now (t .exit)) ≡ withSlot (tableOf (now (t .entry))) (flipped (tableOf (now (t .entry)) .occupied) slot) slot noCall ⌝ }
 {
-    let word = t.occupied;
-    with_slot(t, flip(word, slot), slot, no_call())
+    let x = [0u32; 32];
+    turn_slot(t, slot, &x);
 }
 
-pub fn take_identifier(t: Table) -> Table
-    ensures { λ r. ⌜ r ≡ identifierTaken t ⌝ }
+pub fn take_identifier(t: &mut Words)
+    ensures { λ _. ⌜ tableOf (now (t .exit)) ≡ identifierTaken (tableOf (now (t .entry))) ⌝ }
 {
-    let mut u = t;
-    u.next = identifier_after(t.next);
-    u
+    let n = next(t);
+    set_next(t, identifier_after(n));
 }

@@ -1,4 +1,103 @@
 // The changes that an answer makes to the connections of the table: added and removed, under a call or with a customer.
-mod four;
-pub mod standalone;
-pub mod under;
+ghost use mathlib.Core.Path.{_≡_};
+ghost use Prim.Native.Nat.{_<_};
+ghost use Rattle.table.specs.Total.{total};
+ghost use Rattle.table.specs.Words.{tableOf};
+ghost use Rattle.table_words.specs.Fours.{fourAtWord, placeOfWords, Inside};
+ghost use Rattle.spec_changes.specs.Connections.{placeFor, addedUnder, addedStandalone, placeWith, removedUnder, removedStandalone, customerOf};
+ghost use Rattle.spec_calls.specs.PathRules.{heldBy};
+use find_connection::four::holds_at;
+use fours::free_place;
+use lists::select;
+use messages::message::Connection;
+use table::layout::CUSTOMERS;
+use table::layout::PLACES;
+use table::layout::Words;
+use table_words::customers::customer_head;
+use table_words::fours::FourPlace;
+use table_words::fours::PlaceWords;
+use table_words::fours::call_four;
+use table_words::fours::customer_four;
+use table_words::fours::no_place;
+use table_words::fours::put_call_place;
+use table_words::fours::put_customer_place;
+use table_words::fours::taken_place;
+use table_words::head::listed;
+
+// The roster's record of an address, 0 where it has none.
+pub fn customer_of(t: &Words, address: u32) -> usize
+    ensures { λ r. ⌜ (r ≡ customerOf (tableOf (now (t .entry))) address) × (r < 8) ⌝ }
+{
+    let n = listed(t);
+    let mut known = false;
+    let mut at: usize = 0;
+    let mut k: usize = 0;
+    while k < CUSTOMERS {
+        let m = customer_head(t, k);
+        let here = (k < n) & (address == m.address);
+        at = select(known, at, select(here, k, 0));
+        known = known | here;
+        k += 1;
+    }
+    at
+}
+
+// The place of a four that holds a connection, 0 where none does. The four lies within the table: who found it promises
+// that.
+fn place_with(t: &Words, f: FourPlace, x: Connection) -> usize
+    requires { ⌜ Inside f ⌝ }
+    ensures { λ r. ⌜ (r ≡ placeWith (fourAtWord (now (t .entry)) f) (heldBy x)) × (r < 4) ⌝ }
+{
+    let mut held = false;
+    let mut at: usize = 0;
+    let mut j: usize = 0;
+    while j < PLACES {
+        let here = holds_at(t, f, j, x);
+        at = select(held, at, select(here, j, 0));
+        held = held | here;
+        j += 1;
+    }
+    at
+}
+
+fn place_for(x: Connection) -> PlaceWords
+    ensures { λ r. ⌜ placeOfWords r ≡ placeFor (heldBy x .lsp) ⌝ }
+{
+    taken_place(x.tunnel, x.extended, x.lsp)
+}
+
+// Into the lowest free place of a slot's call. A slot is one of the table's.
+pub fn add_under(t: &mut Words, slot: usize, x: Connection)
+    requires { ⌜ slot < total ⌝ }
+    ensures { λ _. ⌜ tableOf (now (t .exit)) ≡ addedUnder (tableOf (now (t .entry))) slot (heldBy x .lsp) ⌝ }
+{
+    let j = free_place(t, call_four(t, slot));
+    put_call_place(t, slot, j, place_for(x));
+}
+
+// Out of its place in a slot's call, and zeros into that place.
+pub fn remove_under(t: &mut Words, slot: usize, x: Connection)
+    requires { ⌜ slot < total ⌝ }
+    ensures { λ _. ⌜ tableOf (now (t .exit)) ≡ removedUnder (tableOf (now (t .entry))) slot (heldBy x) ⌝ }
+{
+    let j = place_with(t, call_four(t, slot), x);
+    put_call_place(t, slot, j, no_place());
+}
+
+// Into the lowest free place of a customer. A roster has eight records.
+pub fn add_standalone(t: &mut Words, k: usize, x: Connection)
+    requires { ⌜ k < 8 ⌝ }
+    ensures { λ _. ⌜ tableOf (now (t .exit)) ≡ addedStandalone (tableOf (now (t .entry))) k (heldBy x .lsp) ⌝ }
+{
+    let j = free_place(t, customer_four(t, k));
+    put_customer_place(t, k, j, x.endpoint, place_for(x));
+}
+
+// Out of its place with a customer, and zeros into that place and its end point.
+pub fn remove_standalone(t: &mut Words, k: usize, x: Connection)
+    requires { ⌜ k < 8 ⌝ }
+    ensures { λ _. ⌜ tableOf (now (t .exit)) ≡ removedStandalone (tableOf (now (t .entry))) k (heldBy x) ⌝ }
+{
+    let j = place_with(t, customer_four(t, k), x);
+    put_customer_place(t, k, j, 0, no_place());
+}

@@ -1,7 +1,7 @@
 //! A13: the packed bits of a checkpoint. All records are whole bytes.
 
 use crate::bytes::{long, word};
-use crate::keys::{Connection, Pair};
+use crate::keys::{Connection, LongId, Name, Pair, ShortId};
 use crate::table::{Call, NAME};
 
 /// The form that this program writes and reads.
@@ -40,7 +40,7 @@ impl Head {
     }
 }
 
-/// A call's record. No places are taken in `call`.
+/// A call's record. No places are taken in `call`, and its numbers have the record's widths.
 #[derive(Clone, Copy)]
 pub struct CallRecord {
     pub slot: u8,
@@ -53,11 +53,11 @@ impl CallRecord {
         let mut name = [0; NAME];
         name.copy_from_slice(&bytes[12..44]);
         let call = Call {
-            id: word(bytes, 1),
+            id: word(bytes, 1).into(),
             endpoint: long(bytes, 3),
             sender: long(bytes, 7),
-            made: bytes[11] >> 7 == 1,
-            size: bytes[11] & 0x7f,
+            made: (bytes[11] >> 7).into(),
+            size: (bytes[11] & 0x7f).into(),
             name,
             refreshed: long(bytes, 44),
             epoch: long(bytes, 47) & 0x00ff_ffff,
@@ -67,20 +67,31 @@ impl CallRecord {
         CallRecord { slot: bytes[0], call }
     }
 
-    pub fn pair(&self) -> Pair {
-        Pair {
+    /// The short Call ID with its pair.
+    pub fn short_id(&self) -> ShortId {
+        let pair = Pair {
             endpoint: self.call.endpoint,
             sender: self.call.sender,
-        }
+        };
+        (pair, self.call.id as u16)
+    }
+
+    /// The long one with its pair.
+    pub fn long_id(&self) -> LongId {
+        let name = Name {
+            size: self.call.size as u8,
+            bytes: self.call.name,
+        };
+        (self.short_id().0, name)
     }
 
     pub fn put(&self, bytes: &mut Vec<u8>) {
         let call = &self.call;
         bytes.push(self.slot);
-        bytes.extend(call.id.to_be_bytes());
+        bytes.extend((call.id as u16).to_be_bytes());
         bytes.extend(call.endpoint.to_be_bytes());
         bytes.extend(call.sender.to_be_bytes());
-        bytes.push(u8::from(call.made) << 7 | call.size);
+        bytes.push((call.made << 7 | call.size) as u8);
         bytes.extend(call.name);
         bytes.extend(call.refreshed.to_be_bytes());
         bytes.extend(&call.epoch.to_be_bytes()[1..]);

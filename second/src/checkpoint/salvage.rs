@@ -3,7 +3,7 @@
 use std::collections::HashMap;
 
 use super::layout::{CallRecord, ConnectionRecord};
-use crate::keys::{LongId, Name, ShortId};
+use crate::keys::{LongId, ShortId};
 use crate::node::{Node, OpenCall};
 use crate::places::Places;
 use crate::table::{Table, CALLS};
@@ -30,7 +30,7 @@ fn stands_alone(fresh: &Table, record: &CallRecord) -> bool {
     }
     let mut table = *fresh;
     table.calls[slot] = record.call;
-    table.occupied = 1 << slot;
+    table.occupy(slot);
     Node::from_table(&table).is_some()
 }
 
@@ -43,24 +43,15 @@ fn without_duplicates<'a>(calls: &[&'a CallRecord], connections: &[ConnectionRec
     }
     let mut winners: HashMap<LongId, (usize, usize)> = HashMap::new();
     for (number, record) in calls.iter().enumerate() {
-        let short = (record.pair(), record.call.id);
-        let names = named.get(&short).copied().unwrap_or(0);
-        let winner = winners.entry(long_id(record)).or_insert((number, names));
+        let names = named.get(&record.short_id()).copied().unwrap_or(0);
+        let winner = winners.entry(record.long_id()).or_insert((number, names));
         if names > winner.1 {
             *winner = (number, names);
         }
     }
-    let wins = |line: &(usize, &&CallRecord)| winners[&long_id(line.1)].0 == line.0;
+    let wins = |line: &(usize, &&CallRecord)| winners[&line.1.long_id()].0 == line.0;
     let kept = calls.iter().enumerate().filter(wins);
     kept.map(|(_, &record)| record).collect()
-}
-
-fn long_id(record: &CallRecord) -> LongId {
-    let name = Name {
-        size: record.call.size,
-        bytes: record.call.name,
-    };
-    (record.pair(), name)
 }
 
 impl Node {
@@ -68,7 +59,7 @@ impl Node {
     /// Its long ID is its alone since step 2.
     fn keep_call(&mut self, record: &CallRecord) {
         let slot = usize::from(record.slot);
-        let short = (record.pair(), record.call.id);
+        let (short, long) = (record.short_id(), record.long_id());
         if !self.free.contains(&slot) || self.calls.contains_key(&short) {
             return;
         }
@@ -80,15 +71,14 @@ impl Node {
             self.roster.accounts[customer].open -= 1;
             return;
         }
-        let (pair, name) = long_id(record);
         let open = OpenCall {
             slot,
-            name,
+            name: long.1,
             places: Places::default(),
         };
         self.free.remove(&slot);
         self.calls.insert(short, open);
-        self.long_ids.insert((pair, name), record.call.id);
+        self.long_ids.insert(long, short.1);
     }
 
     /// Step 3 for a connection: drops it if it stands already, under whatever Call ID, its sender is not listed, its

@@ -42,8 +42,8 @@ fn calls_in_order(node: &Node) -> BTreeMap<usize, CallRecord> {
         let call = Call {
             endpoint: pair.endpoint,
             sender: pair.sender,
-            id,
-            size: open.name.size,
+            id: id.into(),
+            size: open.name.size.into(),
             name: open.name.bytes,
             ..Call::FREE
         };

@@ -165,14 +165,14 @@ impl TestNode {
 
     /// S, from the table.
     pub fn s(&self) -> usize {
-        let larger = |address: u32, guarantee: u8| {
+        let larger = |address: u32, guarantee: u32| {
             let calls = self.table.calls.iter();
             calls
                 .filter(|call| call.id != 0 && call.sender == address)
                 .count()
-                .max(guarantee.into())
+                .max(guarantee as usize)
         };
-        let listed = &self.table.customers[..self.table.listed.into()];
+        let listed = &self.table.customers[..self.table.listed as usize];
         listed.iter().map(|c| larger(c.address, c.guarantee)).sum()
     }
 

@@ -35,7 +35,7 @@ fn a_guarantee_stays_open_to_its_customer() {
     assert_eq!(tested.s(), 64);
     assert_eq!(tested.ask(&open(Y, 64, b"y")), 34);
     assert_eq!(tested.ask(&open(X, 1, b"x")), 20);
-    assert_eq!(tested.table.occupied, u64::MAX);
+    assert_eq!(tested.table.occupied, [u32::MAX; 2]);
     assert_eq!(tested.ask(&open(X, 2, b"x2")), 34);
     // 21, 31 and 30 come before 34, at the limit too.
     assert_eq!(tested.ask(&open(X, 1, b"x")), 21);
@@ -116,9 +116,9 @@ fn the_lowest_free_slot() {
     }
     for (slot, id) in [(7, 101), (19, 102), (40, 103)] {
         assert_eq!(tested.ask(&open(X, id, &id.to_be_bytes())), 20);
-        assert_eq!(tested.table.calls[slot].id, id);
+        assert_eq!(tested.table.calls[slot].id, id.into());
     }
-    assert_eq!(tested.table.occupied, u64::MAX);
+    assert_eq!(tested.table.occupied, [u32::MAX; 2]);
 }
 
 #[test]
@@ -128,7 +128,7 @@ fn the_slot_holds_the_call() {
     assert_eq!(tested.ask(&open(X, 5, b"ab")), 20);
     let mut expected = fresh;
     expected.next = 2;
-    expected.occupied = 1;
+    expected.occupied = [1, 0];
     expected.calls[0].endpoint = END;
     expected.calls[0].sender = X;
     expected.calls[0].id = 5;

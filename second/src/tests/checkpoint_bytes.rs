@@ -66,9 +66,9 @@ pub fn salvage(records: &[(u32, u16, u16)], checkpoint: &[u8]) -> Read {
     } else {
         assert_eq!(plain, (72, crate::read_roster(&roster).1, 0, 0));
     }
-    let used = (0..64).filter(|slot| table.occupied >> slot & 1 == 1);
+    let used = (0..64).filter(|&slot| table.uses(slot));
     Read {
-        calls: used.map(|slot| (slot, table.calls[slot].id)).collect(),
+        calls: used.map(|slot| (slot, table.calls[slot].id as u16)).collect(),
         dropped: (calls, connections),
         table,
     }
@@ -78,12 +78,12 @@ impl Read {
     /// The LSP IDs of a slot's taken places, by place.
     pub fn lsps(&self, slot: usize) -> Vec<u16> {
         let places = self.table.calls[slot].places.iter();
-        places.filter(|p| p.taken).map(|p| p.lsp).collect()
+        places.filter(|p| p.taken == 1).map(|p| p.lsp as u16).collect()
     }
 
     /// The LSP IDs of a customer's taken places, by place.
     pub fn standalone(&self, customer: usize) -> Vec<u16> {
         let places = self.table.customers[customer].places.iter();
-        places.filter(|p| p.taken).map(|p| p.lsp).collect()
+        places.filter(|p| p.taken == 1).map(|p| p.lsp as u16).collect()
     }
 }

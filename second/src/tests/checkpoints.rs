@@ -63,7 +63,7 @@ fn every_bit_of_a_record_is_read() {
     assert_eq!((call.id, call.endpoint, call.sender), (0xfedc, 0x1234_5678, X));
     assert_eq!((call.size, call.name[0], call.name[31]), (32, 1, 32));
     let place = Place {
-        taken: true,
+        taken: 1,
         tunnel: 0x89ab,
         extended: 0xcdef_0123,
         lsp: 0x4567,
@@ -136,7 +136,7 @@ fn a_buffer_too_short() {
 #[test]
 fn a_table_that_breaks_a_rule_is_not_written() {
     let mut table = small();
-    table.calls[0].made = true;
+    table.calls[0].made = 1;
     for length in [0, 3, 95, 200] {
         let mut buffer = vec![OLD; length];
         assert_eq!(write_checkpoint(&table, &mut buffer), (1, 0));
@@ -230,16 +230,17 @@ fn places_close_up_and_slots_do_not() {
         assert_eq!(tested.ask(&message), 25);
     }
     assert_eq!(tested.ask(&close(X, 1, &[0, 1])), 22);
-    assert!(tested.table.calls[2].places[2].taken);
+    assert_eq!(tested.table.calls[2].places[2].taken, 1);
     let read = salvage(ROOMY, &written(&tested.table));
     assert_eq!(read.dropped, (0, 0));
     assert_eq!(read.calls, [(1, 2), (2, 3)]);
     let (call, customer) = (read.table.calls[2], read.table.customers[0]);
-    assert_eq!(call.places.map(|place| place.taken), [true, false, false, false]);
+    assert_eq!(call.places.map(|place| place.taken), [1, 0, 0, 0]);
     assert_eq!(call.places[0].lsp, 3);
     assert_eq!(call.places[2], Place::FREE);
-    assert_eq!(customer.places.map(|place| place.taken), [true, false, false, false]);
+    assert_eq!(customer.places.map(|place| place.taken), [1, 0, 0, 0]);
     assert_eq!(customer.places[0].lsp, 5);
+    assert_eq!(customer.endpoints, [END, 0, 0, 0]);
 }
 
 #[test]
@@ -258,5 +259,5 @@ fn the_worst_checkpoint_is_read_soon() {
     assert_eq!((answer, calls), (0, 4095 - 60));
     // Four under each of the sixty calls, four of Call ID 0.
     assert_eq!(connections, 65535 - 4 * 61);
-    assert_eq!(table.occupied.count_ones(), 60);
+    assert_eq!((0..64).filter(|&slot| table.uses(slot)).count(), 60);
 }

@@ -1,7 +1,7 @@
 //! 01, "Every answer": connections.
 
 use super::build::*;
-use crate::table::{Place, StandalonePlace};
+use crate::table::Place;
 
 fn with_call_5() -> TestNode {
     let mut tested = TestNode::two();
@@ -96,12 +96,10 @@ fn the_lowest_free_place_and_no_closing_up() {
     let call = &tested.table.calls[0];
     assert_eq!(call.places.map(|place| place.lsp), [0, 52, 0, 54]);
     assert_eq!((call.places[0], call.places[2]), (Place::FREE, Place::FREE));
-    let standalone = &tested.table.customers[0].places;
-    assert_eq!(standalone.map(|place| place.lsp), [0, 2, 0, 4]);
-    assert_eq!(
-        (standalone[0], standalone[2]),
-        (StandalonePlace::FREE, StandalonePlace::FREE)
-    );
+    let standalone = &tested.table.customers[0];
+    assert_eq!(standalone.places.map(|place| place.lsp), [0, 2, 0, 4]);
+    assert_eq!((standalone.places[0], standalone.places[2]), (Place::FREE, Place::FREE));
+    assert_eq!(standalone.endpoints, [0, END, 0, END]);
     assert_eq!(tested.ask(&path(X, 5, 60)), 23);
     assert_eq!(tested.ask(&path(X, 0, 61)), 23);
     assert_eq!(tested.table.calls[0].places[0].lsp, 60);
@@ -123,7 +121,7 @@ fn a_connection_of_all_zeros() {
     let zeros = [session(0, 0, 0, 0), template(0, 0)];
     assert_eq!(tested.ask(&message(PATH_TEAR, &zeros)), 15);
     assert_eq!(tested.ask(&message(PATH, &zeros)), 23);
-    assert!(tested.table.customers[0].places[0].taken);
+    assert_eq!(tested.table.customers[0].places[0].taken, 1);
     assert_eq!(tested.ask(&message(PATH, &zeros)), 24);
     assert_eq!(tested.ask(&message(PATH_TEAR, &zeros)), 25);
     assert_eq!(tested.ask(&message(PATH_TEAR, &zeros)), 15);

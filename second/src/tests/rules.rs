@@ -1,7 +1,7 @@
 //! 01, "Table rules".
 
 use super::build::*;
-use crate::table::{Call, Customer, Place, StandalonePlace, Table};
+use crate::table::{Call, Customer, Place, Table};
 use crate::{handle, Node};
 
 /// Two calls of X, one of Y; connections under X's first and with both customers.
@@ -30,25 +30,23 @@ fn breaks(change: impl FnOnce(&mut Table)) -> bool {
 
 #[test]
 fn the_layout_is_that_of_the_header() {
-    use std::mem::size_of;
-    assert_eq!(size_of::<Place>(), 12);
-    assert_eq!(size_of::<Call>(), 104);
-    assert_eq!(size_of::<StandalonePlace>(), 20);
-    assert_eq!(size_of::<Customer>(), 88);
-    assert_eq!(size_of::<Table>(), 7384);
-}
-
-#[test]
-fn the_new_fields_stand_as_in_the_header() {
-    use std::mem::offset_of;
-    assert_eq!(offset_of!(Call, refreshed), 8);
-    assert_eq!(offset_of!(Call, epoch), 12);
-    assert_eq!(offset_of!(Call, identifier), 16);
-    assert_eq!(offset_of!(Call, id), 20);
-    assert_eq!(offset_of!(Call, made), 22);
-    assert_eq!(offset_of!(Call, size), 23);
-    assert_eq!(offset_of!(Call, name), 24);
-    assert_eq!(offset_of!(Call, places), 56);
+    use std::mem::{align_of, offset_of, size_of};
+    /// The words from the struct's first to the field's.
+    macro_rules! words {
+        ($($type:ident $field:ident)*) => { [$(offset_of!($type, $field) / 4),*] };
+    }
+    let place = words!(Place taken Place tunnel Place extended Place lsp);
+    assert_eq!(place, [0, 1, 2, 3]);
+    let call = words!(Call endpoint Call sender Call refreshed Call epoch Call identifier Call id Call made Call size
+        Call name Call places);
+    assert_eq!(call, [0, 1, 2, 3, 4, 5, 6, 7, 8, 16]);
+    let customer = words!(Customer address Customer guarantee Customer limit Customer endpoints Customer places);
+    assert_eq!(customer, [0, 1, 2, 3, 7]);
+    let table = words!(Table address Table epoch Table next Table listed Table occupied Table customers Table calls);
+    assert_eq!(table, [0, 1, 2, 3, 4, 6, 190]);
+    let bytes = [size_of::<Place>(), size_of::<Call>(), size_of::<Customer>()];
+    assert_eq!(bytes, [16, 128, 92]);
+    assert_eq!((size_of::<Table>(), align_of::<Table>()), (4 * 2238, 4));
 }
 
 #[test]
@@ -73,11 +71,11 @@ fn the_empty_table() {
     assert!(!empty(|t| t.next = 9));
     assert!(empty(|t| t.address = 1));
     assert!(empty(|t| t.epoch = 1));
-    assert!(empty(|t| t.occupied = 1));
+    assert!(empty(|t| t.occupied = [1, 0]));
     assert!(empty(|t| t.customers[0].limit = 1));
     assert!(empty(|t| t.customers[7].address = 1));
     assert!(empty(|t| t.calls[63].id = 1));
-    assert!(empty(|t| t.calls[0].made = true));
+    assert!(empty(|t| t.calls[0].made = 1));
     assert!(empty(|t| t.calls[63].identifier = 1));
 }
 
@@ -97,7 +95,7 @@ fn the_roster_is_acceptable() {
     assert!(breaks(|t| t.customers[2].guarantee = 1));
     assert!(breaks(|t| t.customers[7].limit = 1));
     assert!(breaks(|t| t.customers[2].places[3].lsp = 1));
-    assert!(breaks(|t| t.customers[2].places[0].taken = true));
+    assert!(breaks(|t| t.customers[2].places[0].taken = 1));
 }
 
 #[test]
@@ -157,7 +155,7 @@ fn names() {
 fn zeros_for_later_requests() {
     // A used slot, the last used one, a free one, the last one.
     for slot in [0, 2, 3, 63] {
-        assert!(breaks(|t| t.calls[slot].made = true));
+        assert!(breaks(|t| t.calls[slot].made = 1));
         for value in [1, 1 << 23, 1 << 24, 1 << 31, u32::MAX] {
             assert!(breaks(|t| t.calls[slot].refreshed = value));
             assert!(breaks(|t| t.calls[slot].epoch = value));
@@ -168,35 +166,35 @@ fn zeros_for_later_requests() {
 
 #[test]
 fn free_slots_are_zeros() {
-    assert!(breaks(|t| t.occupied = 0));
-    assert!(breaks(|t| t.occupied |= 1 << 63));
+    assert!(breaks(|t| t.occupied = [0, 0]));
+    assert!(breaks(|t| t.occupied[1] |= 1 << 31));
     assert!(breaks(|t| t.calls[3].endpoint = 1));
     assert!(breaks(|t| t.calls[3].sender = 1));
     assert!(breaks(|t| t.calls[3].id = 1));
     assert!(breaks(|t| t.calls[3].size = 1));
     assert!(breaks(|t| t.calls[63].name[31] = 1));
-    assert!(breaks(|t| t.calls[63].places[3].taken = true));
+    assert!(breaks(|t| t.calls[63].places[3].taken = 1));
     // A call may stand in any slot.
     assert!(!breaks(|t| {
         t.calls.swap(0, 63);
-        t.occupied = 0b110 | 1 << 63;
+        t.occupied = [0b110, 1 << 31];
     }));
 }
 
 #[test]
 fn free_places_are_zeros() {
-    assert!(breaks(|t| t.calls[0].places[0].taken = false));
+    assert!(breaks(|t| t.calls[0].places[0].taken = 0));
     assert!(breaks(|t| t.calls[0].places[3].tunnel = 1));
     assert!(breaks(|t| t.calls[0].places[3].extended = 1));
     assert!(breaks(|t| t.calls[0].places[3].lsp = 1));
-    assert!(breaks(|t| t.customers[0].places[0].taken = false));
-    assert!(breaks(|t| t.customers[0].places[3].endpoint = 1));
+    assert!(breaks(|t| t.customers[0].places[0].taken = 0));
+    assert!(breaks(|t| t.customers[0].endpoints[3] = 1));
     assert!(breaks(|t| t.customers[0].places[3].tunnel = 1));
     assert!(breaks(|t| t.customers[0].places[3].extended = 1));
     assert!(breaks(|t| t.customers[0].places[3].lsp = 1));
     // Taken and all zeros is a connection like any other.
-    assert!(!breaks(|t| t.calls[0].places[3].taken = true));
-    assert!(!breaks(|t| t.customers[0].places[3].taken = true));
+    assert!(!breaks(|t| t.calls[0].places[3].taken = 1));
+    assert!(!breaks(|t| t.customers[0].places[3].taken = 1));
 }
 
 #[test]
@@ -204,7 +202,10 @@ fn no_connection_twice() {
     // In one call, in two calls of a pair, with one customer, under a call and Call ID 0.
     assert!(breaks(|t| t.calls[0].places[1].lsp = 1));
     assert!(breaks(|t| t.calls[1].places[2] = t.calls[0].places[0]));
-    assert!(breaks(|t| t.customers[0].places[1] = t.customers[0].places[0]));
+    assert!(breaks(|t| {
+        t.customers[0].places[1] = t.customers[0].places[0];
+        t.customers[0].endpoints[1] = t.customers[0].endpoints[0];
+    }));
     assert!(breaks(|t| t.customers[0].places[0].lsp = 1));
     // Another end point or sender makes another connection.
     assert!(!breaks(|t| {
@@ -214,6 +215,60 @@ fn no_connection_twice() {
     assert!(!breaks(|t| t.calls[2].places[2] = t.calls[0].places[0]));
     assert!(!breaks(|t| {
         t.customers[0].places[0].lsp = 1;
-        t.customers[0].places[0].endpoint += 1;
+        t.customers[0].endpoints[0] += 1;
     }));
+}
+
+#[test]
+fn a_mark_is_1_or_0() {
+    for mark in [2, 3, 7, 255, 256, 257, 1 << 16, 1 << 31, u32::MAX] {
+        // Over a connection, over zeros, in a free slot and an unused record.
+        assert!(breaks(|t| t.calls[0].places[0].taken = mark));
+        assert!(breaks(|t| t.calls[0].places[3].taken = mark));
+        assert!(breaks(|t| t.calls[3].places[0].taken = mark));
+        assert!(breaks(|t| t.customers[0].places[0].taken = mark));
+        assert!(breaks(|t| t.customers[0].places[3].taken = mark));
+        assert!(breaks(|t| t.customers[2].places[0].taken = mark));
+        for slot in [0, 3] {
+            assert!(breaks(|t| t.calls[slot].made = mark));
+        }
+    }
+}
+
+#[test]
+fn ids_have_sixteen_bits() {
+    assert!(!breaks(|t| t.calls[0].id = 65_535));
+    assert!(!breaks(|t| t.calls[0].places[0].tunnel = 65_535));
+    assert!(!breaks(|t| t.calls[0].places[0].lsp = 65_535));
+    assert!(!breaks(|t| t.customers[0].places[0].tunnel = 65_535));
+    assert!(!breaks(|t| t.customers[0].places[0].lsp = 65_535));
+    assert!(!breaks(|t| t.calls[0].places[0].extended = u32::MAX));
+    assert!(!breaks(|t| t.customers[0].places[0].extended = u32::MAX));
+    assert!(!breaks(|t| t.customers[0].endpoints[0] = u32::MAX));
+    // The old number with a bit above it, and others.
+    for above in [1 << 16, 1 << 17, 70_000, 1 << 24, 1 << 31, u32::MAX] {
+        assert!(breaks(|t| t.calls[0].id |= above));
+        assert!(breaks(|t| t.calls[0].id = above));
+        for place in [0, 3] {
+            assert!(breaks(|t| t.calls[0].places[place].tunnel |= above));
+            assert!(breaks(|t| t.calls[0].places[place].lsp |= above));
+            assert!(breaks(|t| t.customers[0].places[place].tunnel |= above));
+            assert!(breaks(|t| t.customers[0].places[place].lsp |= above));
+        }
+    }
+}
+
+#[test]
+fn numbers_whose_low_byte_would_do() {
+    for above in [1 << 8, 1 << 16, 1 << 24, 1 << 31] {
+        assert!(breaks(|t| t.listed |= above));
+        assert!(breaks(|t| t.customers[0].guarantee |= above));
+        assert!(breaks(|t| t.customers[0].limit |= above));
+        assert!(breaks(|t| t.calls[0].size |= above));
+    }
+    for value in [33, 40, 64, 255, 1 << 31, u32::MAX] {
+        assert!(breaks(|t| t.calls[0].size = value));
+        assert!(breaks(|t| t.listed = value));
+    }
+    assert!(breaks(|t| t.customers[2].endpoints[0] = 1));
 }

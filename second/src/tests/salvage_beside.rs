@@ -159,7 +159,7 @@ fn places_close_up_behind_dropped_records() {
     let read = salvage(ROOMY, &checkpoint(&calls, &connections));
     assert_eq!(read.dropped, (0, 2));
     let taken = read.table.calls[0].places.map(|place| place.taken);
-    assert_eq!(taken, [true, true, false, false]);
+    assert_eq!(taken, [1, 1, 0, 0]);
     assert_eq!(read.lsps(0), [3, 2]);
 }
 
@@ -178,7 +178,7 @@ fn all_zeros_and_address_zero() {
     let checkpoint = checkpoint(&[vec![0; 55]], &[vec![0; 18]]);
     let read = salvage(&[(0, 0, 1)], &checkpoint);
     assert_eq!(read.dropped, (1, 0));
-    assert!(read.table.customers[0].places[0].taken);
+    assert_eq!(read.table.customers[0].places[0].taken, 1);
 }
 
 #[test]

@@ -1,11 +1,16 @@
 -- `open_call`: each return has the tests of its answer; where a call may be opened a slot is free.
-use Rattle.find_call.proofs.Looks.{found}
-use Rattle.spec_calls.proofs.Ruled.{open-room}
-use Rattle.outcomes.proofs.Ruled.{ruled-by}
-use Rattle.spec_calls.proofs.Decided.{open-again, open-duplicate, open-contention, open-no-share, open-new}
-use Rattle.answers.specs.declared.answer.Answer.the-variants.{CallAlreadyOpen, DuplicateCall, CallIdContention, NoShare, CallOpened}
+use native.Mathlib.Omega.{arith}
+use mathlib.Core.Path.{_≡_, sym, ap, _∙_}
 use Rattle.messages.specs.declared.message.Message.the-variants.{Open}
-use mathlib.Core.Path.{sym, _∙_}
+use Rattle.table.specs.Word.{lowestFree}
+use Rattle.table.specs.Words.{tableOf}
+use Rattle.answers.specs.declared.answer.Answer.the-variants.{CallAlreadyOpen, DuplicateCall, CallIdContention, NoShare, CallOpened}
+use Rattle.spec_calls.specs.CallRules.{idsIn}
+use Rattle.spec_calls.proofs.Decided.{open-again, open-duplicate, open-contention, open-no-share, open-new}
+use Rattle.spec_calls.proofs.Ruled.{open-room}
+use Rattle.find_call.proofs.Looks.{found}
+use Rattle.outcomes.proofs.Ruled.{ruled-by}
+use Rattle.answer_call.proofs.Sent.{opened-sent, sent-from}
 use borrow.Author.Needs.{needs}
 use Rattle.answer_call.proofs.open_call.Statement.{statement}
 use Rattle.answer_call.proofs.open_call.Tie as tie
@@ -21,9 +26,11 @@ same-length c = search needs
 
 returns : tie.Need-returns
 returns c =
+    let z = c .before .before .before .before .before .before .before .before .before .before in
+    let t = tableOf (z .args .t .now) in
     let n = c .before .before .notified .ensures in
-    let f = found _ _ _ (c .before .before .before .before .before .look-up .ensures) in
-    ruled-by _ _ _ (Open (c .before .before .before .before .before .before .before .before .args .q)) CallAlreadyOpen _ _ _ _ (open-again _ _ _ _ (sym (f .known) ∙ c .before .before .before .before .if1 .taken)) (n .0) (n .1) (n .2) (n .3)
+    let f = found t (idsIn (z .args .msg .now) (z .args .q)) _ (c .before .before .before .before .before .before .look-up .ensures) in
+    ruled-by t _ _ (Open (z .args .q)) CallAlreadyOpen _ _ _ _ (open-again _ _ _ _ (sym (f .known) ∙ c .before .before .before .before .before .if1 .taken)) (n .answer) (n .length) (n .table) (n .reply)
 
 notified-requires-2 : tie.Need-notified-requires-2
 notified-requires-2 c κs = search needs
@@ -33,9 +40,13 @@ same-length-2 c = search needs
 
 returns-2 : tie.Need-returns-2
 returns-2 c =
+    let z = c .before .before .before .before .before .before .before .before .before .before .before in
+    let t = tableOf (z .args .t .now) in
     let n = c .before .before .notified2 .ensures in
-    let f = found _ _ _ (c .before .before .before .before .before .before .look-up .ensures) in
-    ruled-by _ _ _ (Open (c .before .before .before .before .before .before .before .before .before .args .q)) DuplicateCall _ _ _ _ (open-duplicate _ _ _ _ (sym (f .known) ∙ c .before .before .before .before .before .if1 .left) (sym (f .long) ∙ c .before .before .before .before .if2 .taken)) (n .0) (n .1) (n .2) (n .3)
+    let f = found t (idsIn (z .args .msg .now) (z .args .q)) _ (c .before .before .before .before .before .before .before .look-up .ensures) in
+    ruled-by t _ _ (Open (z .args .q)) DuplicateCall _ _ _ _
+    (open-duplicate _ _ _ _ (sym (f .known) ∙ c .before .before .before .before .before .before .if1 .left) (sym (f .long) ∙ c .before .before .before .before .before .if2 .taken))
+    (n .answer) (n .length) (n .table) (n .reply)
 
 notified-requires-3 : tie.Need-notified-requires-3
 notified-requires-3 c κs = search needs
@@ -45,11 +56,13 @@ same-length-3 c = search needs
 
 returns-3 : tie.Need-returns-3
 returns-3 c =
+    let z = c .before .before .before .before .before .before .before .before .before .before .before .before in
+    let t = tableOf (z .args .t .now) in
     let n = c .before .before .notified3 .ensures in
-    let f = found _ _ _ (c .before .before .before .before .before .before .before .look-up .ensures) in
-    ruled-by _ _ _ (Open (c .before .before .before .before .before .before .before .before .before .before .args .q)) CallIdContention _ _ _ _
-    (open-contention _ _ _ _ (sym (f .known) ∙ c .before .before .before .before .before .before .if1 .left) (sym (f .long) ∙ c .before .before .before .before .before .if2 .left) (sym (f .short) ∙ c .before .before .before .before .if3 .taken))
-    (n .0) (n .1) (n .2) (n .3)
+    let f = found t (idsIn (z .args .msg .now) (z .args .q)) _ (c .before .before .before .before .before .before .before .before .look-up .ensures) in
+    ruled-by t _ _ (Open (z .args .q)) CallIdContention _ _ _ _
+    (open-contention _ _ _ _ (sym (f .known) ∙ c .before .before .before .before .before .before .before .if1 .left) (sym (f .long) ∙ c .before .before .before .before .before .before .if2 .left) (sym (f .short) ∙ c .before .before .before .before .before .if3 .taken))
+    (n .answer) (n .length) (n .table) (n .reply)
 
 share-used-up-requires : tie.Need-share-used-up-requires
 share-used-up-requires c κs = search needs
@@ -62,20 +75,32 @@ same-length-4 c = search needs
 
 returns-4 : tie.Need-returns-4
 returns-4 c =
+    let z = c .before .before .before .before .before .before .before .before .before .before .before .before .before .before .before in
+    let t = tableOf (z .args .t .now) in
     let n = c .before .before .notified4 .ensures in
-    let f = found _ _ _ (c .before .before .before .before .before .before .before .before .before .look-up .ensures) in
-    ruled-by _ _ _ (Open (c .before .before .before .before .before .before .before .before .before .before .before .before .args .q)) NoShare _ _ _ _
-    (open-no-share _ _ _ _ (sym (f .known) ∙ c .before .before .before .before .before .before .before .before .if1 .left) (sym (f .long) ∙ c .before .before .before .before .before .before .before .if2 .left) (sym (f .short) ∙ c .before .before .before .before .before .before .if3 .left)
-    (sym (c .before .before .before .before .before .share-used-up .ensures) ∙ c .before .before .before .before .if4 .taken))
-    (n .0) (n .1) (n .2) (n .3)
+    let f = found t (idsIn (z .args .msg .now) (z .args .q)) _ (c .before .before .before .before .before .before .before .before .before .before .before .look-up .ensures) in
+    ruled-by t _ _ (Open (z .args .q)) NoShare _ _ _ _
+    (open-no-share _ _ _ _ (sym (f .known) ∙ c .before .before .before .before .before .before .before .before .before .before .if1 .left) (sym (f .long) ∙ c .before .before .before .before .before .before .before .before .before .if2 .left) (sym (f .short) ∙ c .before .before .before .before .before .before .before .before .if3 .left)
+    (sym (c .before .before .before .before .before .before .share-used-up .ensures) ∙ c .before .before .before .before .before .if4 .taken))
+    (n .answer) (n .length) (n .table) (n .reply)
+
+occupied-requires : tie.Need-occupied-requires
+occupied-requires c κs = search needs
+
+lowest-free-requires : tie.Need-lowest-free-requires
+lowest-free-requires c κs = search needs
 
 open-slot-requires : tie.Need-open-slot-requires
 open-slot-requires c κs =
-    let p = c .before .before .before .before .before .before .before .before .pre in
-    let f = found _ _ _ (c .before .before .before .before .before .look-up .ensures) in
-    let e = open-new _ _ _ _ (sym (f .known) ∙ c .before .before .before .before .if1 .left) (sym (f .long) ∙ c .before .before .before .if2 .left) (sym (f .short) ∙ c .before .before .if3 .left)
-    (sym (c .before .share-used-up .ensures) ∙ c .if4 .left) in
-    (p .2 .name, p .2 .nameMost, open-room _ _ (p .0) (search needs) (p .1) e)
+    let w = c .before .before in
+    let d = w .before .before in
+    let z = d .before .before .before .before .before .before .before .before .before .before in
+    let p = z .pre in
+    let f = found _ _ _ (d .before .before .before .before .before .before .look-up .ensures) in
+    let e = open-new _ _ _ _ (sym (f .known) ∙ d .before .before .before .before .before .if1 .left) (sym (f .long) ∙ d .before .before .before .before .if2 .left) (sym (f .short) ∙ d .before .before .before .if3 .left)
+    (sym (d .before .share-used-up .ensures) ∙ d .if4 .left) in
+    let slot : c .before .lowest-free .result ≡ lowestFree (tableOf (z .args .t .now) .occupied) = c .before .lowest-free .ensures ∙ ap lowestFree (w .occupied .ensures) in
+    (p .2 .name, p .2 .nameMost, slot, rw slot (open-room _ _ (p .0) (omega (arith, w .occupied .ensures)) (p .1) e))
 
 notified-requires-5 : tie.Need-notified-requires-5
 notified-requires-5 c κs = search needs
@@ -85,12 +110,19 @@ same-length-5 c = search needs
 
 returns-5 : tie.Need-returns-5
 returns-5 c =
-    let n = c .before .before .notified5 .ensures in
-    let f = found _ _ _ (c .before .before .before .before .before .before .before .before .before .before .look-up .ensures) in
-    ruled-by _ _ _ (Open (c .before .before .before .before .before .before .before .before .before .before .before .before .before .args .q)) CallOpened _ _ _ _
-    (open-new _ _ _ _ (sym (f .known) ∙ c .before .before .before .before .before .before .before .before .before .if1 .left) (sym (f .long) ∙ c .before .before .before .before .before .before .before .before .if2 .left) (sym (f .short) ∙ c .before .before .before .before .before .before .before .if3 .left)
-    (sym (c .before .before .before .before .before .before .share-used-up .ensures) ∙ c .before .before .before .before .before .if4 .left))
-    (n .0) (n .1) (rw (c .before .before .before .before .open-slot .ensures) at (n .2)) (n .3)
+    let o = c .before .before .before .before .before in
+    let d = o .before .before .before .before .before in
+    let z = d .before .before .before .before .before .before .before .before .before .before in
+    let t = tableOf (z .args .t .now) in
+    let q = z .args .q in
+    let ids = idsIn (z .args .msg .now) q in
+    let f = found t ids _ (d .before .before .before .before .before .before .look-up .ensures) in
+    let n = sent-from (o .open-slot .ensures) (c .before .before .notified5 .ensures) in
+    let sent = opened-sent t ids _ q _ CallOpened _ _ _ _ n in
+    ruled-by t _ _ (Open q) CallOpened _ _ _ _
+    (open-new _ _ _ _ (sym (f .known) ∙ d .before .before .before .before .before .if1 .left) (sym (f .long) ∙ d .before .before .before .before .if2 .left) (sym (f .short) ∙ d .before .before .before .if3 .left)
+    (sym (d .before .share-used-up .ensures) ∙ d .if4 .left))
+    (n .answer) (sent .0) (n .table) (sent .1)
 
 pub open-call-spec : {M : Type 1} → statement M
 open-call-spec =
@@ -110,6 +142,8 @@ open-call-spec =
     notified-requires-4
     same-length-4
     returns-4
+    occupied-requires
+    lowest-free-requires
     open-slot-requires
     notified-requires-5
     same-length-5

@@ -16,7 +16,7 @@ same-length c = search needs
 
 returns : tie.Need-returns
 returns c =
-    let e = c .before .before .before .before .handle .ensures in
+    let e = c .before .before .before .handle .ensures in
     (c .number .ensures ∙ ap (λ h. answerNumber (h .answer)) e, ap (λ h. h .length) e, ap (λ h. h .table) e, ap (λ h. h .buffer) e)
 
 pub chaffmoor-handle-spec : {M : Type 1} → statement M

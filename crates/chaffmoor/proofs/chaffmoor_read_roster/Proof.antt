@@ -13,7 +13,7 @@ roster-number-requires c κs = search needs
 
 returns : tie.Need-returns
 returns c =
-    let e = c .before .before .read-roster .ensures in
+    let e = c .before .read-roster .ensures in
     (c .roster-number .ensures ∙ ap rosterNumber (e .0), e .1)
 
 pub chaffmoor-read-roster-spec : {M : Type 1} → statement M

@@ -1,6 +1,7 @@
 -- `read_records` meets its contract: the callees' promises, one put into the other.
-use borrow.Author.Needs.{needs}
+use Rattle.table.specs.Words.{tableOf}
 use Rattle.checkpoint_read.proofs.Answered.{read-is}
+use borrow.Author.Needs.{needs}
 use Rattle.checkpoint_read.proofs.read_records.Statement.{statement}
 use Rattle.checkpoint_read.proofs.read_records.Tie as tie
 
@@ -27,12 +28,13 @@ rest-requires-2 c κs = search needs
 
 returns : tie.Need-returns
 returns c =
-    let o = c .before .before .before in
-    let w = o .before in
-    let z = w .before .before .before in
+    let o = c .before .before .before .before in
+    let w = o .before .before in
+    let v = w .before .before in
+    let z = v .before .before .before in
     let a = z .args in
-    read-is (a .fresh) (w .before .with-calls .result) (w .with-connections .result) (a .s .now) (a .calls) (a .connections) _ _ (z .pre) (w .before .with-calls .ensures) (w .with-connections .ensures)
-    (rw (o .open-calls .ensures) at (c .before .before .rest .ensures)) (rw (c .before .connections-held .ensures .0) at (c .rest2 .ensures))
+    read-is (tableOf (a .t .now)) _ _ (a .s .now) (a .calls) (a .connections) _ _ (z .pre .0) (v .with-calls .ensures) (w .with-connections .ensures)
+    (rw (o .open-calls .ensures) at (c .before .before .before .rest .ensures)) (rw (c .before .connections-held .ensures .0) at (c .rest2 .ensures))
 
 pub read-records-spec : {M : Type 1} → statement M
 read-records-spec =

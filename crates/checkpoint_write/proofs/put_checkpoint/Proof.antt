@@ -6,6 +6,7 @@ use Rattle.replies.proofs.Written.{tail-length}
 use Rattle.lists.specs.Below.{below}
 use Rattle.table.specs.Lists.{heldAt, standaloneAt}
 use Rattle.table.specs.Total.{totalOf}
+use Rattle.table.specs.Words.{tableOf}
 use Rattle.spec_changes.proofs.Slot.{open-most}
 use Rattle.checkpoint_write.specs.Bytes.{heldBytes, callsBytes}
 use Rattle.checkpoint_records.proofs.Behind.{more}
@@ -17,7 +18,7 @@ open-calls-requires : tie.Need-open-calls-requires
 open-calls-requires c κs = search needs
 
 cast-open : tie.Need-cast-open
-cast-open c = omega (arith, open-most (c .before .before .args .t))
+cast-open c = omega (arith, open-most (tableOf (c .before .before .args .t .now)))
 
 connections-held-requires : tie.Need-connections-held-requires
 connections-held-requires c κs = search needs
@@ -26,7 +27,7 @@ cast-held : tie.Need-cast-held
 cast-held c = search needs
 
 put-head-requires : tie.Need-put-head-requires
-put-head-requires c κs = (omega (arith, open-most (c .before .before .before .before .args .t)), omega (arith, checkpoint-fits _ _ (c .before .before .before .before .pre .1)))
+put-head-requires c κs = (omega (arith, open-most (tableOf (c .before .before .before .before .args .t .now))), omega (arith, checkpoint-fits _ _ (c .before .before .before .before .pre .1)))
 
 sub-put-calls : tie.Need-sub-put-calls
 sub-put-calls c = omega (arith, checkpoint-fits _ _ (c .before .before .before .before .before .before .before .pre .1))
@@ -53,7 +54,7 @@ part-put-under-calls-end : tie.Need-part-put-under-calls-end
 part-put-under-calls-end c = search needs
 
 put-under-calls-requires : tie.Need-put-under-calls-requires
-put-under-calls-requires c κs = rw (tail-length _ _) (omega (arith, checkpoint-fits _ _ (c .before .before .before .before .before .before .before .before .before .before .before .before .pre .1)))
+put-under-calls-requires c κs = (c .before .before .before .before .before .before .before .before .before .before .before .before .pre .0, rw (tail-length _ _) (omega (arith, checkpoint-fits _ _ (c .before .before .before .before .before .before .before .before .before .before .before .before .pre .1))))
 
 add-c : tie.Need-add-c
 add-c c = omega (arith, checkpoint-fits _ _ (c .before .before .before .before .before .before .before .before .before .before .before .before .before .before .before .pre .1))
@@ -68,7 +69,7 @@ part-put-with-no-call-end : tie.Need-part-put-with-no-call-end
 part-put-with-no-call-end c = search needs
 
 put-with-no-call-requires : tie.Need-put-with-no-call-requires
-put-with-no-call-requires c κs = rw (tail-length _ _) (omega (arith, checkpoint-fits _ _ (c .before .before .before .before .before .before .before .before .before .before .before .before .before .before .before .before .pre .1)))
+put-with-no-call-requires c κs = (c .before .before .before .before .before .before .before .before .before .before .before .before .before .before .before .before .pre .0, rw (tail-length _ _) (omega (arith, checkpoint-fits _ _ (c .before .before .before .before .before .before .before .before .before .before .before .before .before .before .before .before .pre .1))))
 
 add-result : tie.Need-add-result
 add-result c = omega (arith, checkpoint-fits _ _ (c .before .before .before .before .before .before .before .before .before .before .before .before .before .before .before .before .before .before .before .pre .1))
@@ -79,7 +80,7 @@ same-length c = search needs
 returns : tie.Need-returns
 returns c =
     let s = c .before .before .before .before .before .before .before .before .before .before .before .before .before .before .before .before .before .before .before in
-    let t = s .args .t in
+    let t = tableOf (s .args .t .now) in
     let w1 = c .before .before .before .before .before .before .before .before .before .before .before .before .before .before .put-head .ensures in
     let w2 = more (callsBytes t) w1 (omega (arith, checkpoint-fits t _ (s .pre .1))) (c .before .before .before .before .before .before .before .before .before .before .put-calls .ensures) in
     let w3 = more (heldBytes (below (heldAt t) (totalOf t))) w2 (simp length-append (omega (arith, checkpoint-fits t _ (s .pre .1)))) (c .before .before .before .before .before .before .put-under-calls .ensures) in

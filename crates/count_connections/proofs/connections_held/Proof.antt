@@ -7,6 +7,7 @@ use Rattle.lists.specs.Below.{below}
 use Rattle.lists.proofs.Count.{count-append, count-all}
 use Rattle.table.specs.Total.{totalOf}
 use Rattle.table.specs.Lists.{heldAt, standaloneAt, held}
+use Rattle.table.specs.Words.{tableOf}
 use Rattle.count_connections.proofs.connections_held.Statement.{statement}
 use Rattle.count_connections.proofs.connections_held.Tie as tie
 
@@ -21,7 +22,7 @@ add-result c = search needs
 
 returns : tie.Need-returns
 returns c =
-    let t = c .before .before .args .t in (
+    let t = tableOf (c .before .before .args .t .now) in (
       rw (c .held-standalone .ensures .0, c .before .held-under-calls .ensures .0)
           (sym (count-append (λ x. true) (below (heldAt t) (totalOf t)) (below (standaloneAt t) 8)) ∙ count-all (held t)),
       omega arith,

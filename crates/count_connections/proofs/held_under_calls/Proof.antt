@@ -1,40 +1,32 @@
 -- `held_under_calls` meets its contract: after `i` turns it has counted the first `i` slots.
 use Prim.Native.Nat.{_*_, _≤_, _-_}
 use native.Mathlib.Omega.{arith}
-use mathlib.Core.Bool.{true}
 use mathlib.Core.Path.{_≡_, refl, sym}
+use mathlib.Core.Bool.{true}
 use borrow.Author.Needs.{needs}
 use Rattle.lists.specs.Below.{below}
 use Rattle.lists.specs.Count.{count}
 use Rattle.lists.proofs.Below.{count-none, count-turns}
 use Rattle.table.specs.Total.{total}
 use Rattle.table.specs.Lists.{heldAt}
+use Rattle.table.specs.Words.{tableOf}
 use Rattle.count_connections.proofs.held_under_calls.Statement.{statement}
 use Rattle.count_connections.proofs.held_under_calls.Tie as tie
 
 abbrev Inv-loop : tie.InvT-loop
-Inv-loop t n₀ i₀ n i = (i ≤ total) × (n ≤ 4 * i) × (n ≡ count (λ x. true) (below (heldAt t) i))
+Inv-loop t word n₀ i₀ n i = (i ≤ total) × (n ≤ 4 * i) × (n ≡ count (λ x. true) (below (heldAt (tableOf t)) i))
 
 abbrev μ-loop : tie.MeasureT-loop
-μ-loop t n₀ i₀ n i = total - i
+μ-loop t word n₀ i₀ n i = total - i
+
+occupied-requires : tie.Need-occupied-requires Inv-loop μ-loop
+occupied-requires c κs = search needs
 
 loop-holds : tie.Need-loop-holds Inv-loop μ-loop
 loop-holds c = (omega arith, omega arith, sym (count-none _ _))
 
-mul-c : tie.Need-mul-c Inv-loop μ-loop
-mul-c c = search needs
-
-element-copy-out-c : tie.Need-element-copy-out-c Inv-loop μ-loop
-element-copy-out-c c = search needs
-
-is-used-requires : tie.Need-is-used-requires Inv-loop μ-loop
-is-used-requires c κs = search needs
-
-taken-under-call-requires : tie.Need-taken-under-call-requires Inv-loop μ-loop
-taken-under-call-requires c κs = search needs
-
-number-if-requires : tie.Need-number-if-requires Inv-loop μ-loop
-number-if-requires c κs = search needs
+taken-in-slot-requires : tie.Need-taken-in-slot-requires Inv-loop μ-loop
+taken-in-slot-requires c κs = search needs
 
 add-n : tie.Need-add-n Inv-loop μ-loop
 add-n c = search needs
@@ -47,8 +39,9 @@ loop-less c = search needs
 
 loop-again : tie.Need-loop-again Inv-loop μ-loop
 loop-again c =
-    let u = c .before .before in
-    (omega arith, omega arith, count-turns _ _ _ _ _ _ _ refl (u .before .before .before .loop .inv .2) (rw (c .number-if .ensures .0, c .before .taken-under-call .ensures .0, u .is-used .ensures)))
+    let l = c .before .before in
+    let e = c .taken-in-slot .ensures in
+    (omega arith, omega (arith, e .1), count-turns _ _ _ _ _ _ _ refl (l .loop .inv .2) (rw (← (l .before .occupied .ensures)) (e .0)))
 
 returns : tie.Need-returns Inv-loop μ-loop
 returns c =
@@ -61,12 +54,9 @@ held-under-calls-spec =
     (tie.spec
     Inv-loop
     μ-loop
+    occupied-requires
     loop-holds
-    mul-c
-    element-copy-out-c
-    is-used-requires
-    taken-under-call-requires
-    number-if-requires
+    taken-in-slot-requires
     add-n
     add-i
     loop-less

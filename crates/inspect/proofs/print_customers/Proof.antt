@@ -5,22 +5,19 @@ use Rattle.inspect.proofs.print_customers.Statement.{statement}
 use Rattle.inspect.proofs.print_customers.Tie as tie
 
 abbrev Inv-loop : tie.InvT-loop
-Inv-loop t listed k₀ k = k ≤ 8
+Inv-loop t count k₀ k = k ≤ 8
 
 abbrev μ-loop : tie.MeasureT-loop
-μ-loop t listed k₀ k = 8 - k
+μ-loop t count k₀ k = 8 - k
 
-cast-listed : tie.Need-cast-listed Inv-loop μ-loop
-cast-listed c = search needs
+listed-requires : tie.Need-listed-requires Inv-loop μ-loop
+listed-requires c κs = search needs
 
 loop-holds : tie.Need-loop-holds Inv-loop μ-loop
 loop-holds c = search needs
 
-mul-c : tie.Need-mul-c Inv-loop μ-loop
-mul-c c = search needs
-
-element-copy-out-c : tie.Need-element-copy-out-c Inv-loop μ-loop
-element-copy-out-c c = search needs
+customer-head-requires : tie.Need-customer-head-requires Inv-loop μ-loop
+customer-head-requires c κs = search needs
 
 print-customer-requires : tie.Need-print-customer-requires Inv-loop μ-loop
 print-customer-requires c κs = search needs
@@ -43,10 +40,9 @@ print-customers-spec =
     (tie.spec
     Inv-loop
     μ-loop
-    cast-listed
+    listed-requires
     loop-holds
-    mul-c
-    element-copy-out-c
+    customer-head-requires
     print-customer-requires
     add-k
     loop-less

@@ -32,11 +32,8 @@ returns c = search needs
 array-share-prefix-bytes : tie.Need-array-share-prefix-bytes
 array-share-prefix-bytes c = search needs
 
-slice-aggregate-read-roster : tie.Need-slice-aggregate-read-roster
-slice-aggregate-read-roster c = sym (length-take-le _ _ (c .before .before .before .before .decode .ensures .0))
-
-read-roster-requires : tie.Need-read-roster-requires
-read-roster-requires c κs = search needs
+slice-aggregate-print-roster : tie.Need-slice-aggregate-print-roster
+slice-aggregate-print-roster c = sym (length-take-le _ _ (c .before .before .before .before .decode .ensures .0))
 
 print-roster-requires : tie.Need-print-roster-requires
 print-roster-requires c κs = search needs
@@ -72,8 +69,7 @@ read-word-spec =
     print-word-requires
     returns
     array-share-prefix-bytes
-    slice-aggregate-read-roster
-    read-roster-requires
+    slice-aggregate-print-roster
     print-roster-requires
     array-share-prefix-bytes-2
     slice-aggregate-read

@@ -6,32 +6,28 @@ use Rattle.restore.proofs.print_table.Statement.{statement}
 use Rattle.restore.proofs.print_table.Tie as tie
 
 abbrev Inv-loop : tie.InvT-loop
-Inv-loop t i₀ i = i ≤ total
+Inv-loop t word i₀ i = i ≤ total
 
 abbrev μ-loop : tie.MeasureT-loop
-μ-loop t i₀ i = total - i
+μ-loop t word i₀ i = total - i
 
 abbrev Inv-loop2 : tie.InvT-loop2
-Inv-loop2 t i m₀ m = m ≤ total
+Inv-loop2 t word i m₀ m = m ≤ total
 
 abbrev μ-loop2 : tie.MeasureT-loop2
-μ-loop2 t i m₀ m = total - m
+μ-loop2 t word i m₀ m = total - m
 
 abbrev Inv-loop3 : tie.InvT-loop3
-Inv-loop3 t i m k₀ k = k ≤ 8
+Inv-loop3 t word i m k₀ k = k ≤ 8
 
 abbrev μ-loop3 : tie.MeasureT-loop3
-μ-loop3 t i m k₀ k = 8 - k
+μ-loop3 t word i m k₀ k = 8 - k
+
+occupied-requires : tie.Need-occupied-requires Inv-loop μ-loop Inv-loop2 μ-loop2 Inv-loop3 μ-loop3
+occupied-requires c κs = search needs
 
 loop-holds : tie.Need-loop-holds Inv-loop μ-loop Inv-loop2 μ-loop2 Inv-loop3 μ-loop3
 loop-holds c = search needs
-
-mul-c : tie.Need-mul-c Inv-loop μ-loop Inv-loop2 μ-loop2 Inv-loop3 μ-loop3
-mul-c c = search needs
-
-element-copy-out-c :
-    tie.Need-element-copy-out-c Inv-loop μ-loop Inv-loop2 μ-loop2 Inv-loop3 μ-loop3
-element-copy-out-c c = search needs
 
 is-used-requires :
     tie.Need-is-used-requires Inv-loop μ-loop Inv-loop2 μ-loop2 Inv-loop3 μ-loop3
@@ -53,16 +49,11 @@ loop-again c = search needs
 loop2-holds : tie.Need-loop2-holds Inv-loop μ-loop Inv-loop2 μ-loop2 Inv-loop3 μ-loop3
 loop2-holds c = search needs
 
-mul-c-2 : tie.Need-mul-c-2 Inv-loop μ-loop Inv-loop2 μ-loop2 Inv-loop3 μ-loop3
-mul-c-2 c = search needs
+call-four-requires : tie.Need-call-four-requires Inv-loop μ-loop Inv-loop2 μ-loop2 Inv-loop3 μ-loop3
+call-four-requires c κs = search needs
 
-element-copy-out-c-2 :
-    tie.Need-element-copy-out-c-2 Inv-loop μ-loop Inv-loop2 μ-loop2 Inv-loop3 μ-loop3
-element-copy-out-c-2 c = search needs
-
-print-under-requires :
-    tie.Need-print-under-requires Inv-loop μ-loop Inv-loop2 μ-loop2 Inv-loop3 μ-loop3
-print-under-requires c κs = search needs
+print-four-requires : tie.Need-print-four-requires Inv-loop μ-loop Inv-loop2 μ-loop2 Inv-loop3 μ-loop3
+print-four-requires c κs = search needs
 
 add-m : tie.Need-add-m Inv-loop μ-loop Inv-loop2 μ-loop2 Inv-loop3 μ-loop3
 add-m c = search needs
@@ -76,16 +67,11 @@ loop2-again c = search needs
 loop3-holds : tie.Need-loop3-holds Inv-loop μ-loop Inv-loop2 μ-loop2 Inv-loop3 μ-loop3
 loop3-holds c = search needs
 
-mul-c-3 : tie.Need-mul-c-3 Inv-loop μ-loop Inv-loop2 μ-loop2 Inv-loop3 μ-loop3
-mul-c-3 c = search needs
+customer-four-requires : tie.Need-customer-four-requires Inv-loop μ-loop Inv-loop2 μ-loop2 Inv-loop3 μ-loop3
+customer-four-requires c κs = search needs
 
-element-copy-out-c-3 :
-    tie.Need-element-copy-out-c-3 Inv-loop μ-loop Inv-loop2 μ-loop2 Inv-loop3 μ-loop3
-element-copy-out-c-3 c = search needs
-
-print-standalone-requires :
-    tie.Need-print-standalone-requires Inv-loop μ-loop Inv-loop2 μ-loop2 Inv-loop3 μ-loop3
-print-standalone-requires c κs = search needs
+print-four-requires-2 : tie.Need-print-four-requires-2 Inv-loop μ-loop Inv-loop2 μ-loop2 Inv-loop3 μ-loop3
+print-four-requires-2 c κs = search needs
 
 add-k : tie.Need-add-k Inv-loop μ-loop Inv-loop2 μ-loop2 Inv-loop3 μ-loop3
 add-k c = search needs
@@ -109,25 +95,22 @@ print-table-spec =
     μ-loop2
     Inv-loop3
     μ-loop3
+    occupied-requires
     loop-holds
-    mul-c
-    element-copy-out-c
     is-used-requires
     print-call-requires
     add-i
     loop-less
     loop-again
     loop2-holds
-    mul-c-2
-    element-copy-out-c-2
-    print-under-requires
+    call-four-requires
+    print-four-requires
     add-m
     loop2-less
     loop2-again
     loop3-holds
-    mul-c-3
-    element-copy-out-c-3
-    print-standalone-requires
+    customer-four-requires
+    print-four-requires-2
     add-k
     loop3-less
     loop3-again

@@ -1,3 +1,4 @@
+-- `shares_hold` meets its contract.
 use borrow.Author.Needs.{needs}
 use Rattle.rule_limits.proofs.shares_hold.Statement.{statement}
 use Rattle.rule_limits.proofs.shares_hold.Tie as tie

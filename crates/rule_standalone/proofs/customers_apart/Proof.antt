@@ -1,120 +1,78 @@
--- `customers_apart` meets its contract: the two loops pass every pair of roster records, and the outer one each by
--- itself.
+-- `customers_apart` meets its contract: each turn adds its record's tests.
 use Prim.Native.Nat.{ℕ, _≤_, _-_}
 use native.Mathlib.Omega.{arith}
-use mathlib.Core.Path.{_≡_, sym, _∙_}
-use mathlib.Core.Bool.{Bool, not, _&&_, _||_, and-true}
+use mathlib.Core.Path.{_≡_, sym, ap₂, _∙_}
+use mathlib.Core.Bool.{Bool, not, _&&_, _||_}
 use lib.Dec.{ltb}
 use borrow.Author.Needs.{needs}
 use Rattle.lists.specs.Count.{noTwo}
 use Rattle.lists.specs.Below.{everyBelow}
 use Rattle.lists.specs.Pairs.{meet, pairsBelow}
 use Rattle.lists.proofs.Below.{every-none}
-use Rattle.lists.proofs.Pairs.{pairs-none, inner-turn, outer-turn-both, no-two-lists}
-use Rattle.table.specs.declared.state.Table.{Table}
-use Rattle.table.specs.Lists.{customerAt, standaloneIn}
+use Rattle.lists.proofs.Pairs.{pairs-none, outer-turn-both, no-two-lists}
+use Rattle.table.specs.Table.{Table}
+use Rattle.table.specs.Lists.{customerAt, customerFour, heldIn}
 use Rattle.table.specs.Rules.{sameLsp}
+use Rattle.table.specs.Words.{tableOf}
 use Rattle.rule_standalone.proofs.customers_apart.Statement.{statement}
 use Rattle.rule_standalone.proofs.customers_apart.Tie as tie
 
--- two roster records have no connection in common
-abbrev differ : Table → ℕ → ℕ → Bool
-differ t i j = not (ltb j (t .listed) && (ltb i (t .listed) && meet sameLsp (standaloneIn (customerAt t j)) (standaloneIn (customerAt t i))))
+-- two records, the later one first, do not hold the same connection; a record does not hold one twice
+abbrev apartAt : Table → ℕ → ℕ → ℕ → Bool
+apartAt t listed i j = not (ltb j listed && (ltb i listed && meet sameLsp (heldIn (customerFour (customerAt t j))) (heldIn (customerFour (customerAt t i)))))
 
--- one record has no connection twice
-abbrev once : Table → ℕ → Bool
-once t i = not (ltb i (t .listed)) || noTwo sameLsp (standaloneIn (customerAt t i))
-
-abbrev Inv-loop2 : tie.InvT-loop2
-Inv-loop2 t listed apart₀ i m j₀ apart j = (j ≤ i) × (apart ≡ (apart₀ && everyBelow (differ t i) j))
-
-abbrev μ-loop2 : tie.MeasureT-loop2
-μ-loop2 t listed apart₀ i m j₀ apart j = i - j
+abbrev onceAt : Table → ℕ → ℕ → Bool
+onceAt t listed i = not (ltb i listed) || noTwo sameLsp (heldIn (customerFour (customerAt t i)))
 
 abbrev Inv-loop : tie.InvT-loop
-Inv-loop t listed apart₀ i₀ apart i = (i ≤ 8) × (apart ≡ (pairsBelow (differ t) i && everyBelow (once t) i))
+Inv-loop t listed apart₀ i₀ apart i = (i ≤ 8) × (apart ≡ (pairsBelow (apartAt (tableOf t) listed) i && everyBelow (onceAt (tableOf t) listed) i))
 
 abbrev μ-loop : tie.MeasureT-loop
 μ-loop t listed apart₀ i₀ apart i = 8 - i
 
-cast-listed : tie.Need-cast-listed Inv-loop2 μ-loop2 Inv-loop μ-loop
-cast-listed c = search needs
+listed-requires : tie.Need-listed-requires Inv-loop μ-loop
+listed-requires c κs = search needs
 
-loop-holds : tie.Need-loop-holds Inv-loop2 μ-loop2 Inv-loop μ-loop
-loop-holds c = (omega arith, sym (rw (pairs-none _, every-none _)))
+loop-holds : tie.Need-loop-holds Inv-loop μ-loop
+loop-holds c = (omega arith, rw (pairs-none _, every-none _))
 
-mul-m : tie.Need-mul-m Inv-loop2 μ-loop2 Inv-loop μ-loop
-mul-m c = search needs
+record-apart-requires : tie.Need-record-apart-requires Inv-loop μ-loop
+record-apart-requires c κs = search needs
 
-element-copy-out-m : tie.Need-element-copy-out-m Inv-loop2 μ-loop2 Inv-loop μ-loop
-element-copy-out-m c = search needs
+record-once-requires : tie.Need-record-once-requires Inv-loop μ-loop
+record-once-requires c κs = search needs
 
-loop2-holds : tie.Need-loop2-holds Inv-loop2 μ-loop2 Inv-loop μ-loop
-loop2-holds c = (omega arith, sym (rw (every-none _) (and-true _)))
-
-mul-k : tie.Need-mul-k Inv-loop2 μ-loop2 Inv-loop μ-loop
-mul-k c = search needs
-
-element-copy-out-k : tie.Need-element-copy-out-k Inv-loop2 μ-loop2 Inv-loop μ-loop
-element-copy-out-k c = search needs
-
-customers-meet-requires : tie.Need-customers-meet-requires Inv-loop2 μ-loop2 Inv-loop μ-loop
-customers-meet-requires c κs = search needs
-
-add-j : tie.Need-add-j Inv-loop2 μ-loop2 Inv-loop μ-loop
-add-j c = search needs
-
-loop2-less : tie.Need-loop2-less Inv-loop2 μ-loop2 Inv-loop μ-loop
-loop2-less c = search needs
-
-loop2-again : tie.Need-loop2-again Inv-loop2 μ-loop2 Inv-loop μ-loop
-loop2-again c =
-    let l = c .before .before .before in
-    let a = l .before .before .before in
-    (omega arith, inner-turn (differ (a .before .args .t1) (a .loop .i)) (l .loop2 .j) _ (a .loop .apart) _ (l .loop2 .inv .1) (rw (c .customers-meet .ensures)))
-
-customer-once-requires : tie.Need-customer-once-requires Inv-loop2 μ-loop2 Inv-loop μ-loop
-customer-once-requires c κs = search needs
-
-add-i : tie.Need-add-i Inv-loop2 μ-loop2 Inv-loop μ-loop
+add-i : tie.Need-add-i Inv-loop μ-loop
 add-i c = search needs
 
-loop-less : tie.Need-loop-less Inv-loop2 μ-loop2 Inv-loop μ-loop
+loop-less : tie.Need-loop-less Inv-loop μ-loop
 loop-less c = search needs
 
-loop-again : tie.Need-loop-again Inv-loop2 μ-loop2 Inv-loop μ-loop
+loop-again : tie.Need-loop-again Inv-loop μ-loop
 loop-again c =
-    let l = c .before .before in
-    let a = l .before .before .before in
-    let t = a .before .args .t1 in
-    let e : l .loop2 .j ≡ a .loop .i = omega arith in
-    (omega arith, outer-turn-both (differ t) (once t) _ _ _ (rw (e, a .loop .inv .1) at (l .loop2 .inv .1)) (rw (c .customer-once .ensures)))
+    let l = c .before .before .before in
+    let listed = l .before .listed .result in
+    let t = tableOf (l .before .before .args .t .now) in
+    (omega arith, outer-turn-both (apartAt t listed) (onceAt t listed) (l .loop .i) _ _ (ap₂ (λ (a b : Bool). a && b) (l .loop .inv .1) (c .before .record-apart .ensures)) (c .record-once .ensures))
 
-returns : tie.Need-returns Inv-loop2 μ-loop2 Inv-loop μ-loop
+returns : tie.Need-returns Inv-loop μ-loop
 returns c =
+    let o = c .before .before in
+    let t = tableOf (o .before .args .t .now) in
     let e : c .before .loop .i ≡ 8 = omega arith in
-    rw e at (c .before .loop .inv .1) ∙ sym (no-two-lists sameLsp _ _ 8)
+    rw (o .listed .ensures) at (rw e at (c .before .loop .inv .1))
+    ∙ sym (no-two-lists sameLsp (λ (k : ℕ). ltb k (t .listed)) (λ (k : ℕ). heldIn (customerFour (customerAt t k))) 8)
 
 pub customers-apart-spec : {M : Type 1} → statement M
 customers-apart-spec =
     tie.close
     (tie.spec
-    Inv-loop2
-    μ-loop2
     Inv-loop
     μ-loop
-    cast-listed
+    listed-requires
     loop-holds
-    mul-m
-    element-copy-out-m
-    loop2-holds
-    mul-k
-    element-copy-out-k
-    customers-meet-requires
-    add-j
-    loop2-less
-    loop2-again
-    customer-once-requires
+    record-apart-requires
+    record-once-requires
     add-i
     loop-less
     loop-again

@@ -1,68 +1,35 @@
--- `call_free_clear` meets its contract: each turn adds its place's test.
-use Prim.Native.Nat.{_≤_, _-_}
-use native.Mathlib.Omega.{arith}
-use mathlib.Core.Path.{_≡_, sym, ap₂}
-use mathlib.Core.Bool.{_&&_, _||_}
+-- `call_free_clear` meets its contract, by what `callFreeClear` says.
+use mathlib.Core.Path.{_∙_}
 use borrow.Author.Needs.{needs}
-use Rattle.lists.specs.Below.{everyBelow}
-use Rattle.lists.proofs.Below.{every-none, every-turn}
-use Rattle.table.specs.Lists.{placeAt}
-use Rattle.table.specs.Rules.{unusedClear, placeClear, callFreeClear}
+use Rattle.table_words.proofs.Alike.{alike-valid}
+use Rattle.rule_zeros.proofs.Free.{free-by-head}
 use Rattle.rule_zeros.proofs.call_free_clear.Statement.{statement}
 use Rattle.rule_zeros.proofs.call_free_clear.Tie as tie
 
-abbrev Inv-loop : tie.InvT-loop
-Inv-loop c clear₀ j₀ clear j = (j ≤ 4) × (clear ≡ everyBelow (λ k. placeAt c k .taken || placeClear (placeAt c k)) j)
+call-head-requires : tie.Need-call-head-requires
+call-head-requires c κs = search needs
 
-abbrev μ-loop : tie.MeasureT-loop
-μ-loop c clear₀ j₀ clear j = 4 - j
-
-loop-holds : tie.Need-loop-holds Inv-loop μ-loop
-loop-holds c = (omega arith, sym (every-none _))
-
-mul-p : tie.Need-mul-p Inv-loop μ-loop
-mul-p c = search needs
-
-element-copy-out-p : tie.Need-element-copy-out-p Inv-loop μ-loop
-element-copy-out-p c = search needs
-
-place-clear-requires : tie.Need-place-clear-requires Inv-loop μ-loop
-place-clear-requires c κs = search needs
-
-add-j : tie.Need-add-j Inv-loop μ-loop
-add-j c = search needs
-
-loop-less : tie.Need-loop-less Inv-loop μ-loop
-loop-less c = search needs
-
-loop-again : tie.Need-loop-again Inv-loop μ-loop
-loop-again c = (omega arith, every-turn _ _ _ _ (c .before .before .before .before .loop .inv .1) (rw (c .before .place-clear .ensures)))
-
-unused-clear-requires : tie.Need-unused-clear-requires Inv-loop μ-loop
-unused-clear-requires c κs = search needs
-
-past-name-clear-requires : tie.Need-past-name-clear-requires Inv-loop μ-loop
+past-name-clear-requires : tie.Need-past-name-clear-requires
 past-name-clear-requires c κs = search needs
 
-returns : tie.Need-returns Inv-loop μ-loop
-unfolding callFreeClear
+call-four-requires : tie.Need-call-four-requires
+call-four-requires c κs = search needs
+
+four-valid-requires : tie.Need-four-valid-requires
+four-valid-requires c κs = search needs
+
+returns : tie.Need-returns
 returns c =
-    let e : c .before .before .before .loop .j ≡ 4 = omega arith in
-    rw (c .before .unused-clear .ensures) (ap₂ (λ a b. unusedClear (c .before .before .before .before .args .t1) && a && b) (c .past-name-clear .ensures) (rw e at (c .before .before .before .loop .inv .1)))
+    let n = c .before .before in
+    let h = n .before .before .before .before .before in
+    free-by-head _ _ (h .call-head .ensures) _ _ (n .past-name-clear .ensures) (c .four-valid .ensures ∙ alike-valid _ _ (c .before .call-four .ensures .0))
 
 pub call-free-clear-spec : {M : Type 1} → statement M
 call-free-clear-spec =
     tie.close
     (tie.spec
-    Inv-loop
-    μ-loop
-    loop-holds
-    mul-p
-    element-copy-out-p
-    place-clear-requires
-    add-j
-    loop-less
-    loop-again
-    unused-clear-requires
+    call-head-requires
     past-name-clear-requires
+    call-four-requires
+    four-valid-requires
     returns)

@@ -1,60 +1,28 @@
--- `customer_free_clear` meets its contract: each turn adds its place's test.
-use Prim.Native.Nat.{_≤_, _-_}
-use native.Mathlib.Omega.{arith}
-use mathlib.Core.Path.{_≡_, sym}
-use mathlib.Core.Bool.{_||_}
+-- `customer_free_clear` meets its contract, by what `customerFreeClear` says.
 use borrow.Author.Needs.{needs}
-use Rattle.lists.specs.Below.{everyBelow}
-use Rattle.lists.proofs.Below.{every-none, every-turn}
-use Rattle.table.specs.Lists.{standalonePlaceAt}
-use Rattle.table.specs.Rules.{standalonePlaceClear, customerFreeClear}
+use Rattle.table.specs.Lists.{customerAt}
+use Rattle.table.specs.Words.{tableOf}
+use Rattle.table_words.specs.Fours.{fourAtWord}
+use Rattle.rule_zeros.proofs.Free.{customer-by-four}
 use Rattle.rule_zeros.proofs.customer_free_clear.Statement.{statement}
 use Rattle.rule_zeros.proofs.customer_free_clear.Tie as tie
 
-abbrev Inv-loop : tie.InvT-loop
-Inv-loop c clear₀ j₀ clear j = (j ≤ 4) × (clear ≡ everyBelow (λ k. standalonePlaceAt c k .taken || standalonePlaceClear (standalonePlaceAt c k)) j)
+customer-four-requires : tie.Need-customer-four-requires
+customer-four-requires c κs = search needs
 
-abbrev μ-loop : tie.MeasureT-loop
-μ-loop c clear₀ j₀ clear j = 4 - j
+four-valid-requires : tie.Need-four-valid-requires
+four-valid-requires c κs = search needs
 
-loop-holds : tie.Need-loop-holds Inv-loop μ-loop
-loop-holds c = (omega arith, sym (every-none _))
+endpoints-clear-requires : tie.Need-endpoints-clear-requires
+endpoints-clear-requires c κs = search needs
 
-mul-p : tie.Need-mul-p Inv-loop μ-loop
-mul-p c = search needs
-
-element-copy-out-p : tie.Need-element-copy-out-p Inv-loop μ-loop
-element-copy-out-p c = search needs
-
-standalone-place-clear-requires : tie.Need-standalone-place-clear-requires Inv-loop μ-loop
-standalone-place-clear-requires c κs = search needs
-
-add-j : tie.Need-add-j Inv-loop μ-loop
-add-j c = search needs
-
-loop-less : tie.Need-loop-less Inv-loop μ-loop
-loop-less c = search needs
-
-loop-again : tie.Need-loop-again Inv-loop μ-loop
-loop-again c = (omega arith, every-turn _ _ _ _ (c .before .before .before .before .loop .inv .1) (rw (c .before .standalone-place-clear .ensures)))
-
-returns : tie.Need-returns Inv-loop μ-loop
-unfolding customerFreeClear
+returns : tie.Need-returns
 returns c =
-    let e : c .before .loop .j ≡ 4 = omega arith in
-    rw e at (c .before .loop .inv .1)
+    let f = c .before .before in
+    let a = f .before .args in
+    customer-by-four (customerAt (tableOf (a .t .now)) (a .k)) (fourAtWord (a .t .now) (f .customer-four .result)) _ _ (f .customer-four .ensures .0) (c .before .four-valid .ensures) (c .endpoints-clear .ensures)
 
 pub customer-free-clear-spec : {M : Type 1} → statement M
 customer-free-clear-spec =
     tie.close
-    (tie.spec
-    Inv-loop
-    μ-loop
-    loop-holds
-    mul-p
-    element-copy-out-p
-    standalone-place-clear-requires
-    add-j
-    loop-less
-    loop-again
-    returns)
+    (tie.spec customer-four-requires four-valid-requires endpoints-clear-requires returns)

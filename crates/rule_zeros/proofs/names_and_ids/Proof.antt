@@ -6,32 +6,28 @@ use mathlib.Core.Bool.{not, _||_}
 use borrow.Author.Needs.{needs}
 use Rattle.lists.specs.Below.{everyBelow}
 use Rattle.lists.proofs.Below.{every-none, every-turn}
+use Rattle.table.specs.Total.{total}
 use Rattle.table.specs.Word.{isUsed}
 use Rattle.table.specs.Lists.{callAt}
 use Rattle.table.specs.Rules.{validIds}
+use Rattle.table.specs.Words.{occupiedOf, tableOf}
 use Rattle.rule_zeros.proofs.names_and_ids.Statement.{statement}
 use Rattle.rule_zeros.proofs.names_and_ids.Tie as tie
 
 abbrev Inv-loop : tie.InvT-loop
-Inv-loop t valid₀ i₀ valid i = (i ≤ 64) × (valid ≡ everyBelow (λ j. not (isUsed (t .occupied) j) || validIds (callAt t j)) i)
+Inv-loop t word valid₀ i₀ valid i = (i ≤ total) × (valid ≡ everyBelow (λ j. not (isUsed (occupiedOf t) j) || validIds (callAt (tableOf t) j)) i)
 
 abbrev μ-loop : tie.MeasureT-loop
-μ-loop t valid₀ i₀ valid i = 64 - i
+μ-loop t word valid₀ i₀ valid i = total - i
+
+occupied-requires : tie.Need-occupied-requires Inv-loop μ-loop
+occupied-requires c κs = search needs
 
 loop-holds : tie.Need-loop-holds Inv-loop μ-loop
 loop-holds c = (omega arith, sym (every-none _))
 
-mul-c : tie.Need-mul-c Inv-loop μ-loop
-mul-c c = search needs
-
-element-copy-out-c : tie.Need-element-copy-out-c Inv-loop μ-loop
-element-copy-out-c c = search needs
-
-is-used-requires : tie.Need-is-used-requires Inv-loop μ-loop
-is-used-requires c κs = search needs
-
-valid-ids-requires : tie.Need-valid-ids-requires Inv-loop μ-loop
-valid-ids-requires c κs = search needs
+ids-valid-requires : tie.Need-ids-valid-requires Inv-loop μ-loop
+ids-valid-requires c κs = search needs
 
 add-i : tie.Need-add-i Inv-loop μ-loop
 add-i c = search needs
@@ -40,11 +36,13 @@ loop-less : tie.Need-loop-less Inv-loop μ-loop
 loop-less c = search needs
 
 loop-again : tie.Need-loop-again Inv-loop μ-loop
-loop-again c = (omega arith, every-turn _ _ _ _ (c .before .before .before .before .loop .inv .1) (rw (c .valid-ids .ensures, c .before .is-used .ensures)))
+loop-again c =
+    let l = c .before .before in
+    (omega arith, every-turn _ _ _ _ (l .loop .inv .1) (rw (← (l .before .occupied .ensures)) (c .ids-valid .ensures)))
 
 returns : tie.Need-returns Inv-loop μ-loop
 returns c =
-    let e : c .before .loop .i ≡ 64 = omega arith in
+    let e : c .before .loop .i ≡ total = omega arith in
     rw e at (c .before .loop .inv .1)
 
 pub names-and-ids-spec : {M : Type 1} → statement M
@@ -53,11 +51,9 @@ names-and-ids-spec =
     (tie.spec
     Inv-loop
     μ-loop
+    occupied-requires
     loop-holds
-    mul-c
-    element-copy-out-c
-    is-used-requires
-    valid-ids-requires
+    ids-valid-requires
     add-i
     loop-less
     loop-again

@@ -6,26 +6,21 @@ use borrow.Author.Needs.{needs}
 use Rattle.lists.specs.Below.{everyBelow}
 use Rattle.lists.proofs.Below.{every-none, every-turn}
 use Rattle.table.specs.Rules.{recordFreeClear}
+use Rattle.table.specs.Words.{tableOf}
 use Rattle.rule_zeros.proofs.records_free_clear.Statement.{statement}
 use Rattle.rule_zeros.proofs.records_free_clear.Tie as tie
 
 abbrev Inv-loop : tie.InvT-loop
-Inv-loop t listed clear₀ k₀ clear k = (k ≤ 8) × (clear ≡ everyBelow (recordFreeClear t) k)
+Inv-loop t listed clear₀ k₀ clear k = (k ≤ 8) × (clear ≡ everyBelow (recordFreeClear (tableOf t)) k)
 
 abbrev μ-loop : tie.MeasureT-loop
 μ-loop t listed clear₀ k₀ clear k = 8 - k
 
-cast-listed : tie.Need-cast-listed Inv-loop μ-loop
-cast-listed c = search needs
+listed-requires : tie.Need-listed-requires Inv-loop μ-loop
+listed-requires c κs = search needs
 
 loop-holds : tie.Need-loop-holds Inv-loop μ-loop
 loop-holds c = (omega arith, sym (every-none _))
-
-mul-c : tie.Need-mul-c Inv-loop μ-loop
-mul-c c = search needs
-
-element-copy-out-c : tie.Need-element-copy-out-c Inv-loop μ-loop
-element-copy-out-c c = search needs
 
 record-free-clear-requires : tie.Need-record-free-clear-requires Inv-loop μ-loop
 record-free-clear-requires c κs = search needs
@@ -37,7 +32,9 @@ loop-less : tie.Need-loop-less Inv-loop μ-loop
 loop-less c = search needs
 
 loop-again : tie.Need-loop-again Inv-loop μ-loop
-loop-again c = (omega arith, every-turn _ _ _ _ (c .before .before .before .loop .inv .1) (c .record-free-clear .ensures))
+loop-again c =
+    let l = c .before .before in
+    (omega arith, every-turn _ _ _ _ (l .loop .inv .1) (rw (← (l .before .listed .ensures)) (c .record-free-clear .ensures)))
 
 returns : tie.Need-returns Inv-loop μ-loop
 returns c =
@@ -50,10 +47,8 @@ records-free-clear-spec =
     (tie.spec
     Inv-loop
     μ-loop
-    cast-listed
+    listed-requires
     loop-holds
-    mul-c
-    element-copy-out-c
     record-free-clear-requires
     add-k
     loop-less

@@ -5,6 +5,7 @@ use mathlib.Core.Path.{_≡_, refl}
 use borrow.Author.Needs.{needs}
 use Rattle.table.specs.Rules.{sameLsp, holds, rosterAcceptable, sendersListed, withinLimits, shareWithinTotal, shortIdsOnce, longIdsOnce, namesAndIds, freeHoldsZeros, rulesHold}
 use Rattle.table.specs.Lists.{heldAt, standaloneAt}
+use Rattle.table.specs.Words.{tableOf}
 use Rattle.table.specs.Total.{totalOf}
 use Rattle.lists.proofs.Pairs.{no-two-append}
 use Rattle.lists.specs.Count.{noTwo}
@@ -47,7 +48,7 @@ free-holds-zeros-requires c κs = search needs
 returns : tie.Need-returns
 unfolding rulesHold
 returns c =
-    let t = c .before .before .before .before .before .before .before .args .t in
+    let t = tableOf (c .before .before .before .before .before .before .before .args .t .now) in
     rw (c .before .before .before .before .before .before .roster-holds .ensures, c .before .before .before .before .before .senders-listed .ensures, c .before .before .before .before .shares-hold .ensures, c .before .before .before .calls-apart .ensures, c .before .before .standalone-once .ensures, c .before .names-and-ids .ensures, c .free-holds-zeros .ensures, no-two-append sameLsp (below (heldAt t) (totalOf t)) (below (standaloneAt t) 8))
     (regrouped (holds rosterAcceptable t) (holds sendersListed t) (holds withinLimits t) (holds shareWithinTotal t) (holds shortIdsOnce t) (holds longIdsOnce t)
     (noTwo sameLsp (below (heldAt t) (totalOf t)))

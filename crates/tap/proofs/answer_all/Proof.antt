@@ -7,10 +7,10 @@ use Rattle.tap.proofs.answer_all.Statement.{statement}
 use Rattle.tap.proofs.answer_all.Tie as tie
 
 abbrev Inv-loop : tie.InvT-loop
-Inv-loop space₀ u₀ n₀ space u n = length space ≡ length space₀
+Inv-loop t₀ space₀ n₀ t space n = length space ≡ length space₀
 
 abbrev μ-loop : tie.MeasureT-loop
-μ-loop space₀ u₀ n₀ space u n = 2 ^ 64 - 1 - n
+μ-loop t₀ space₀ n₀ t space n = 2 ^ 64 - 1 - n
 
 loop-holds : tie.Need-loop-holds Inv-loop μ-loop
 loop-holds c = search needs

@@ -5,22 +5,19 @@ use mathlib.Core.Bool.{not}
 use mathlib.Core.Path.{_≡_, sym, ap}
 use lib.ListN.{getD}
 use lib.Dec.{eqb}
-use borrow.Author.Needs.{needs}
 use Rattle.lists.specs.Below.{everyBelow}
 use Rattle.lists.proofs.Below.{every-none, every-turn}
 use Rattle.checkpoint_choice.specs.Ranked.{isBetter, isBest}
 use Rattle.checkpoint_choice.proofs.Tests.{first-fails, first-passes}
+use borrow.Author.Needs.{needs}
 use Rattle.checkpoint_choice.proofs.choosing.is_best.Statement.{statement}
 use Rattle.checkpoint_choice.proofs.choosing.is_best.Tie as tie
 
 abbrev Inv-loop : tie.InvT-loop
-Inv-loop s sound named calls i alone c best₀ j₀ best j = (j ≤ calls) × (best ≡ everyBelow (λ j. not (isBetter s sound named i j)) j)
+Inv-loop s sound named calls i alone best₀ j₀ best j = (j ≤ calls) × (best ≡ everyBelow (λ j. not (isBetter s sound named i j)) j)
 
 abbrev μ-loop : tie.MeasureT-loop
-μ-loop s sound named calls i alone c best₀ j₀ best j = calls - j
-
-mul-alone : tie.Need-mul-alone Inv-loop μ-loop
-mul-alone c = search needs
+μ-loop s sound named calls i alone best₀ j₀ best j = calls - j
 
 element-copy-out-alone : tie.Need-element-copy-out-alone Inv-loop μ-loop
 element-copy-out-alone c = search needs
@@ -31,14 +28,11 @@ returns c =
     let a = c .before .before .before .args in
     first-fails (eqb (getD (a .sound .now) (a .i) 0) 1) (everyBelow (λ j. not (isBetter (a .s .now) (a .sound .now) (a .named .now) (a .i) j)) (a .calls)) (c .if1 .taken)
 
-call-record-requires : tie.Need-call-record-requires Inv-loop μ-loop
-call-record-requires c κs = search needs
-
 loop-holds : tie.Need-loop-holds Inv-loop μ-loop
 loop-holds c = (omega arith, sym (every-none _))
 
 is-better-requires : tie.Need-is-better-requires Inv-loop μ-loop
-is-better-requires c κs = (omega arith, omega arith, omega arith, ap (λ r. r .call) (c .before .before .before .call-record .ensures))
+is-better-requires c κs = search needs
 
 add-j : tie.Need-add-j Inv-loop μ-loop
 add-j c = search needs
@@ -54,7 +48,7 @@ loop-again c =
 returns-2 : tie.Need-returns-2 Inv-loop μ-loop
 unfolding isBest
 returns-2 c =
-    let z = c .before .before .before .before in
+    let z = c .before .before in
     let a = z .before .before .before .args in
     let e : c .before .loop .j ≡ a .calls = omega arith in
     rw (c .before .loop .inv .1, e)
@@ -66,10 +60,8 @@ is-best-spec =
     (tie.spec
     Inv-loop
     μ-loop
-    mul-alone
     element-copy-out-alone
     returns
-    call-record-requires
     loop-holds
     is-better-requires
     add-j

@@ -1,10 +1,10 @@
 -- `choosing::is_better` meets its contract: the names are compared where the record is ahead.
-use borrow.Author.Needs.{needs}
 use Rattle.table.specs.Rules.{sameLong}
 use Rattle.table.specs.Lists.{idsOf}
 use Rattle.spec_checkpoint.specs.Layout.{callRecord}
 use Rattle.checkpoint_choice.specs.Ranked.{isAhead, isBetter}
 use Rattle.checkpoint_choice.proofs.Tests.{first-fails, first-passes}
+use borrow.Author.Needs.{needs}
 use Rattle.checkpoint_choice.proofs.choosing.is_better.Statement.{statement}
 use Rattle.checkpoint_choice.proofs.choosing.is_better.Tie as tie
 
@@ -20,9 +20,6 @@ mul-n c = search needs
 element-copy-out-n : tie.Need-element-copy-out-n
 element-copy-out-n c = search needs
 
-mul-ahead : tie.Need-mul-ahead
-mul-ahead c = search needs
-
 element-copy-out-ahead : tie.Need-element-copy-out-ahead
 element-copy-out-ahead c = search needs
 
@@ -32,19 +29,15 @@ returns c =
     let a = c .before .before .before .before .before .args in
     first-fails (isAhead (a .sound .now) (a .named .now) (a .i) (a .j)) (sameLong (idsOf (callRecord (a .s .now) (a .j) .call)) (idsOf (callRecord (a .s .now) (a .i) .call))) (c .if1 .taken)
 
-call-record-requires : tie.Need-call-record-requires
-call-record-requires c κs = search needs
-
 same-long-requires : tie.Need-same-long-requires
 same-long-requires c κs = search needs
 
 returns-2 : tie.Need-returns-2
 unfolding isBetter
 returns-2 c =
-    let z = c .before .before .before .before .before .before .before .before in
-    let a = z .args in
-    rw (c .same-long .ensures, c .before .before .call-record .ensures, z .pre .3)
-    (first-passes (isAhead (a .sound .now) (a .named .now) (a .i) (a .j)) (sameLong (idsOf (callRecord (a .s .now) (a .j) .call)) (idsOf (callRecord (a .s .now) (a .i) .call))) (c .before .before .before .if1 .left))
+    let a = c .before .before .before .before .before .before .args in
+    rw (c .same-long .ensures)
+    (first-passes (isAhead (a .sound .now) (a .named .now) (a .i) (a .j)) (sameLong (idsOf (callRecord (a .s .now) (a .j) .call)) (idsOf (callRecord (a .s .now) (a .i) .call))) (c .before .if1 .left))
 
 pub is-better-spec : {M : Type 1} → statement M
 is-better-spec =
@@ -54,9 +47,7 @@ is-better-spec =
     element-copy-out-m
     mul-n
     element-copy-out-n
-    mul-ahead
     element-copy-out-ahead
     returns
-    call-record-requires
     same-long-requires
     returns-2)

@@ -4,11 +4,11 @@ use native.Mathlib.Omega.{arith}
 use native.Mathlib.Nat.{not-suc-le-zero}
 use mathlib.Core.Path.{_≡_}
 use lib.ListN.{length}
-use borrow.Author.Needs.{needs}
 use Rattle.spec_checkpoint.specs.Salvage.{namedBy}
 use Rattle.spec_checkpoint.specs.Layout.{callRecord}
 use Rattle.checkpoint_choice.specs.Ranked.{Filled}
 use Rattle.checkpoint_choice.proofs.Best.{filled-turn}
+use borrow.Author.Needs.{needs}
 use Rattle.checkpoint_choice.proofs.choosing.named_counts.Statement.{statement}
 use Rattle.checkpoint_choice.proofs.choosing.named_counts.Tie as tie
 
@@ -21,11 +21,11 @@ abbrev μ-loop : tie.MeasureT-loop
 loop-holds : tie.Need-loop-holds Inv-loop μ-loop
 loop-holds c = (omega arith, search needs, λ j b. absurd (not-suc-le-zero b))
 
-call-record-requires : tie.Need-call-record-requires Inv-loop μ-loop
-call-record-requires c κs = search needs
-
 named-by-requires : tie.Need-named-by-requires Inv-loop μ-loop
 named-by-requires c κs = search needs
+
+cast-counts : tie.Need-cast-counts Inv-loop μ-loop
+cast-counts c = search needs
 
 mul-counts : tie.Need-mul-counts Inv-loop μ-loop
 mul-counts c = search needs
@@ -41,9 +41,8 @@ loop-less c = search needs
 
 loop-again : tie.Need-loop-again Inv-loop μ-loop
 loop-again c =
-    let b = c .before in
-    let l = b .before .before in
-    (omega arith, search needs, filled-turn _ (l .loop .counts) (l .loop .i) _ (omega arith) (l .loop .inv .2) (rw (b .call-record .ensures) at (c .named-by .ensures)))
+    let l = c .before .before in
+    (omega arith, search needs, filled-turn _ (l .loop .counts) (l .loop .i) _ (omega arith) (l .loop .inv .2) (c .named-by .ensures .0))
 
 returns : tie.Need-returns Inv-loop μ-loop
 returns c =
@@ -57,8 +56,8 @@ named-counts-spec =
     Inv-loop
     μ-loop
     loop-holds
-    call-record-requires
     named-by-requires
+    cast-counts
     mul-counts
     array-write-counts
     add-i

@@ -1,29 +1,27 @@
--- `choosing::sound_flags` meets its contract: after `i` turns the first `i` places are filled.
+-- `choosing::sound_flags` meets its contract: after `i` turns the first `i` places are filled, and the table is as it was.
 use Prim.Native.Nat.{_≤_, _-_}
 use native.Mathlib.Omega.{arith}
 use native.Mathlib.Nat.{not-suc-le-zero}
-use mathlib.Core.Path.{_≡_, ap, _∙_}
+use mathlib.Core.Path.{_≡_, refl, ap, _∙_}
 use lib.ListN.{length}
-use borrow.Author.Needs.{needs}
 use Rattle.lists.specs.Count.{bit}
+use Rattle.table.specs.Words.{tableOf}
 use Rattle.spec_checkpoint.specs.Salvage.{soundAlone}
 use Rattle.spec_checkpoint.specs.Layout.{callRecord}
 use Rattle.checkpoint_choice.specs.Ranked.{Filled}
 use Rattle.checkpoint_choice.proofs.Best.{filled-turn}
+use borrow.Author.Needs.{needs}
 use Rattle.checkpoint_choice.proofs.choosing.sound_flags.Statement.{statement}
 use Rattle.checkpoint_choice.proofs.choosing.sound_flags.Tie as tie
 
 abbrev Inv-loop : tie.InvT-loop
-Inv-loop fresh s calls flags₀ i₀ flags i = (i ≤ calls) × (length flags ≡ 4096) × Filled (λ j. bit (soundAlone fresh (callRecord s j))) flags i
+Inv-loop t₀ s calls flags₀ i₀ t flags i = (i ≤ calls) × (length flags ≡ 4096) × Filled (λ j. bit (soundAlone (tableOf t₀) (callRecord s j))) flags i × (tableOf t ≡ tableOf t₀)
 
 abbrev μ-loop : tie.MeasureT-loop
-μ-loop fresh s calls flags₀ i₀ flags i = calls - i
+μ-loop t₀ s calls flags₀ i₀ t flags i = calls - i
 
 loop-holds : tie.Need-loop-holds Inv-loop μ-loop
-loop-holds c = (omega arith, search needs, λ j b. absurd (not-suc-le-zero b))
-
-call-record-requires : tie.Need-call-record-requires Inv-loop μ-loop
-call-record-requires c κs = search needs
+loop-holds c = (omega arith, search needs, λ j b. absurd (not-suc-le-zero b), refl)
 
 sound-alone-requires : tie.Need-sound-alone-requires Inv-loop μ-loop
 sound-alone-requires c κs = search needs
@@ -31,8 +29,8 @@ sound-alone-requires c κs = search needs
 one-if-requires : tie.Need-one-if-requires Inv-loop μ-loop
 one-if-requires c κs = search needs
 
-mul-flags : tie.Need-mul-flags Inv-loop μ-loop
-mul-flags c = search needs
+cast-flags : tie.Need-cast-flags Inv-loop μ-loop
+cast-flags c = search needs
 
 array-write-flags : tie.Need-array-write-flags Inv-loop μ-loop
 array-write-flags c = search needs
@@ -45,14 +43,16 @@ loop-less c = search needs
 
 loop-again : tie.Need-loop-again Inv-loop μ-loop
 loop-again c =
-    let b = c .before .before in
-    let l = b .before .before in
-    (omega arith, search needs, filled-turn _ (l .loop .flags) (l .loop .i) _ (omega arith) (l .loop .inv .2) (c .one-if .ensures .0 ∙ ap bit (rw (b .call-record .ensures) at (c .before .sound-alone .ensures))))
+    let b = c .before in
+    let l = b .before .before .before in
+    let s = l .before .before .args .s .now in
+    let sound = b .sound-alone .ensures .0 ∙ ap (λ t. soundAlone t (callRecord s (l .loop .i))) (l .loop .inv .3) in
+    (omega arith, search needs, filled-turn _ (l .loop .flags) (l .loop .i) _ (omega arith) (l .loop .inv .2) (c .one-if .ensures .0 ∙ ap bit sound), b .sound-alone .ensures .1 ∙ l .loop .inv .3)
 
 returns : tie.Need-returns Inv-loop μ-loop
 returns c =
     let e : c .before .loop .i ≡ c .before .before .before .args .calls = omega arith in
-    rw e at (c .before .loop .inv .2)
+    (rw e at (c .before .loop .inv .2), c .before .loop .inv .3)
 
 pub sound-flags-spec : {M : Type 1} → statement M
 sound-flags-spec =
@@ -61,10 +61,9 @@ sound-flags-spec =
     Inv-loop
     μ-loop
     loop-holds
-    call-record-requires
     sound-alone-requires
     one-if-requires
-    mul-flags
+    cast-flags
     array-write-flags
     add-i
     loop-less

@@ -2,20 +2,45 @@
 use Prim.Native.Nat.{_+_, _*_, _≤_, _-_}
 use native.Mathlib.Omega.{arith}
 use mathlib.Core.Path.{_≡_, sym, ap, _∙_}
-use borrow.Author.Needs.{needs}
 use Rattle.lists.specs.Count.{bit, count}
 use Rattle.lists.proofs.Below.{count-none}
 use Rattle.table.specs.Lists.{idsOf}
 use Rattle.spec_changes.specs.Connections.{isUnder}
+use Rattle.spec_checkpoint.specs.Layout.{callRecord}
 use Rattle.checkpoint_choice.proofs.Named.{recordsFrom, named-turn, named-all}
+use borrow.Author.Needs.{needs}
 use Rattle.checkpoint_choice.proofs.naming.named_by.Statement.{statement}
 use Rattle.checkpoint_choice.proofs.naming.named_by.Tie as tie
 
 abbrev Inv-loop : tie.InvT-loop
-Inv-loop s calls connections c base n₀ k₀ n k = (k ≤ connections) × (n ≤ k) × (n ≡ count (isUnder (idsOf c)) (recordsFrom s base k))
+Inv-loop s calls connections i at short endpoint sender base n₀ k₀ n k = (k ≤ connections) × (n ≤ k) × (n ≡ count (isUnder (idsOf (callRecord s i .call))) (recordsFrom s base k))
 
 abbrev μ-loop : tie.MeasureT-loop
-μ-loop s calls connections c base n₀ k₀ n k = connections - k
+μ-loop s calls connections i at short endpoint sender base n₀ k₀ n k = connections - k
+
+mul-at : tie.Need-mul-at Inv-loop μ-loop
+mul-at c = search needs
+
+add-at : tie.Need-add-at Inv-loop μ-loop
+add-at c = search needs
+
+add-get16 : tie.Need-add-get16 Inv-loop μ-loop
+add-get16 c = search needs
+
+get16-requires : tie.Need-get16-requires Inv-loop μ-loop
+get16-requires c κs = search needs
+
+add-get32 : tie.Need-add-get32 Inv-loop μ-loop
+add-get32 c = search needs
+
+get32-requires : tie.Need-get32-requires Inv-loop μ-loop
+get32-requires c κs = search needs
+
+add-get32-2 : tie.Need-add-get32-2 Inv-loop μ-loop
+add-get32-2 c = search needs
+
+get32-requires-2 : tie.Need-get32-requires-2 Inv-loop μ-loop
+get32-requires-2 c κs = search needs
 
 mul-base : tie.Need-mul-base Inv-loop μ-loop
 mul-base c = search needs
@@ -50,14 +75,16 @@ loop-less c = search needs
 loop-again : tie.Need-loop-again Inv-loop μ-loop
 loop-again c =
     let l = c .before .before .before in
-    let a = l .before .before .before .args in
-    (omega arith, omega arith, named-turn (a .s .now) (4 + 55 * a .calls) (l .loop .k) _ _ (a .r .call) (l .loop .inv .2) (c .one-if .ensures .0 ∙ ap bit (c .before .names-call .ensures)))
+    let e = l .before in
+    let a = e .before .before .before .before .args in
+    let named = rw (e .get322 .ensures, e .before .get32 .ensures, e .before .before .get16 .ensures) at (c .before .names-call .ensures) in
+    (omega arith, omega arith, named-turn (a .s .now) (4 + 55 * a .calls) (l .loop .k) _ _ (idsOf (callRecord (a .s .now) (a .i) .call)) (l .loop .inv .2) (c .one-if .ensures .0 ∙ ap bit named))
 
 returns : tie.Need-returns Inv-loop μ-loop
 returns c =
-    let z = c .before .before .before .before in
+    let z = c .before .before .before .before .before .before in
     let e : c .before .loop .k ≡ z .args .connections = omega arith in
-    named-all _ _ _ _ (z .args .r) (z .pre) (rw e at (c .before .loop .inv .2))
+    (named-all _ _ _ _ (callRecord (z .args .s .now) (z .args .i)) (z .pre .0) (rw e at (c .before .loop .inv .2)), omega arith)
 
 pub named-by-spec : {M : Type 1} → statement M
 named-by-spec =
@@ -65,6 +92,14 @@ named-by-spec =
     (tie.spec
     Inv-loop
     μ-loop
+    mul-at
+    add-at
+    add-get16
+    get16-requires
+    add-get32
+    get32-requires
+    add-get32-2
+    get32-requires-2
     mul-base
     add-base
     loop-holds

@@ -2,18 +2,19 @@
 use Prim.Native.Nat.{_≤_, _-_}
 use native.Mathlib.Omega.{arith}
 use mathlib.Core.Path.{_≡_}
-use borrow.Author.Needs.{needs}
+use Rattle.table.specs.Words.{tableOf}
 use Rattle.spec_calls.specs.PathRules.{heldBy}
 use Rattle.spec_checkpoint.specs.Salvage.{withConnections}
 use Rattle.checkpoint_read.proofs.Turns.{connections-turn, connections-none}
+use borrow.Author.Needs.{needs}
 use Rattle.checkpoint_read.proofs.filling.with_connections.Statement.{statement}
 use Rattle.checkpoint_read.proofs.filling.with_connections.Tie as tie
 
 abbrev Inv-loop : tie.InvT-loop
-Inv-loop s calls connections base t₀ k₀ t k = (k ≤ connections) × (t ≡ withConnections t₀ s k)
+Inv-loop t₀ s calls connections base k₀ t k = (k ≤ connections) × (tableOf t ≡ withConnections (tableOf t₀) s k)
 
 abbrev μ-loop : tie.MeasureT-loop
-μ-loop s calls connections base t₀ k₀ t k = connections - k
+μ-loop t₀ s calls connections base k₀ t k = connections - k
 
 mul-base : tie.Need-mul-base Inv-loop μ-loop
 mul-base c = search needs
@@ -44,12 +45,11 @@ loop-less c = search needs
 
 loop-again : tie.Need-loop-again Inv-loop μ-loop
 loop-again c =
-    let l = c .before .before .before in
+    let r = c .before .before in
+    let l = r .before .before in
     let z = l .before .before in
-    let a = z .args in (
-      omega arith,
-      connections-turn (a .start) (a .s .now) (a .calls) (a .connections) (l .loop .k) (l .loop .t) _ (heldBy (c .before .connection-record .result)) (z .pre) (l .loop .inv .1) (c .before .connection-record .ensures) (c .with-connection .ensures),
-    )
+    let a = z .args in
+    (omega arith, connections-turn (tableOf (a .t .now)) (a .s .now) (a .calls) (a .connections) (l .loop .k) (tableOf (l .loop .t)) _ (heldBy (r .connection-record .result)) (z .pre) (l .loop .inv .1) (r .connection-record .ensures) (c .with-connection .ensures))
 
 returns : tie.Need-returns Inv-loop μ-loop
 returns c =

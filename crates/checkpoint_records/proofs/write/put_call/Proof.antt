@@ -2,34 +2,36 @@
 use Prim.Native.Nat.{_+_, _*_}
 use native.Mathlib.Omega.{arith}
 use mathlib.Core.List.{[], _∷_, _++_}
-use mathlib.Core.Path.{_≡_}
-use lib.ListN.{length}
-use borrow.Author.Needs.{needs}
 use Rattle.numbers.specs.BigEndian.{bytes16, bytes24, bytes32}
-use Rattle.lists.specs.Count.{bit}
-use Rattle.checkpoint_records.proofs.Behind.{more, name-put, regrouped}
+use Rattle.table.specs.Lists.{callAt}
+use Rattle.table.specs.Words.{tableOf}
+use Rattle.checkpoint_records.proofs.Behind.{more, regrouped, name-long}
+use borrow.Author.Needs.{needs}
 use Rattle.checkpoint_records.proofs.write.put_call.Statement.{statement}
 use Rattle.checkpoint_records.proofs.write.put_call.Tie as tie
 
+call-head-requires : tie.Need-call-head-requires
+call-head-requires c κs = search needs
+
+cast-put-before-name : tie.Need-cast-put-before-name
+cast-put-before-name c = search needs
+
 put-before-name-requires : tie.Need-put-before-name-requires
-put-before-name-requires c κs = search needs
+put-before-name-requires c κs =
+    let w = c .before .before .before .pre .1 in
+    rw (c .before .call-head .ensures) (w .id, w .made, w .size, omega arith)
 
-sub-put-received : tie.Need-sub-put-received
-sub-put-received c = search needs
+sub-put-name : tie.Need-sub-put-name
+sub-put-name c = search needs
 
-part-put-received-start : tie.Need-part-put-received-start
-part-put-received-start c = search needs
+part-put-name-start : tie.Need-part-put-name-start
+part-put-name-start c = search needs
 
-part-put-received-end : tie.Need-part-put-received-end
-part-put-received-end c = search needs
+part-put-name-end : tie.Need-part-put-name-end
+part-put-name-end c = search needs
 
-slice-aggregate-put-received : tie.Need-slice-aggregate-put-received
-slice-aggregate-put-received c = search needs
-
-put-received-requires : tie.Need-put-received-requires
-put-received-requires c κs =
-    let h : length (c .before .before .before .before .before .before .before .before .args .c .name) ≡ 32 = search needs in
-    (omega arith, search needs)
+put-name-requires : tie.Need-put-name-requires
+put-name-requires c κs = search needs
 
 add-b : tie.Need-add-b
 add-b c = search needs
@@ -54,25 +56,27 @@ same-length c = search needs
 
 returns : tie.Need-returns
 returns c =
-    let s = c .before .before .before .before .before .before .before .before .before .before .before .before .before .before .before in
-    let k = s .args .c in
-    let h : length (k .name) ≡ 32 = search needs in
-    let front = s .args .slot ∷ bytes16 (k .id .0) ++ bytes32 (k .endpoint) ++ bytes32 (k .sender) ++ ((bit (k .made) * 128 + k .size) ∷ []) in
-    let w1 = c .before .before .before .before .before .before .before .before .before .before .before .put-before-name .ensures .1 in
-    let w2 = more (k .name) w1 (omega arith) (name-put (k .name) h (c .before .before .before .before .before .before .put-received .ensures)) in
-    let w3 = more (bytes32 (k .refreshed) ++ bytes24 (k .epoch) ++ bytes32 (k .identifier)) w2 (omega arith) (c .before .before .put-behind-name .ensures .1) in
+    let h = c .before .before .before .before .before .before .before .before .before .before .before .before in
+    let s = h .before .before in
+    let k = callAt (tableOf (s .args .t .now)) (s .args .i) in
+    let long = name-long (s .args .t .now) (s .args .i) (s .pre .0) in
+    let front = s .args .i ∷ bytes16 (k .id) ++ bytes32 (k .endpoint) ++ bytes32 (k .sender) ++ ((k .made * 128 + k .size) ∷ []) in
+    let w1 = rw (h .call-head .ensures) at (c .before .before .before .before .before .before .before .before .before .before .put-before-name .ensures .1) in
+    let w2 = more (k .name) w1 (omega arith) (c .before .before .before .before .before .before .put-name .ensures .1) in
+    let w3 = more (bytes32 (k .refreshed) ++ bytes24 (k .epoch) ++ bytes32 (k .identifier)) w2 (omega arith) (rw (h .call-head .ensures) at (c .before .before .put-behind-name .ensures .1)) in
     regrouped (front ++ k .name) (bytes32 (k .refreshed)) (bytes24 (k .epoch)) (bytes32 (k .identifier)) w3
 
 pub put-call-spec : {M : Type 1} → statement M
 put-call-spec =
     tie.close
     (tie.spec
+    call-head-requires
+    cast-put-before-name
     put-before-name-requires
-    sub-put-received
-    part-put-received-start
-    part-put-received-end
-    slice-aggregate-put-received
-    put-received-requires
+    sub-put-name
+    part-put-name-start
+    part-put-name-end
+    put-name-requires
     add-b
     sub-put-behind-name
     part-put-behind-name-start

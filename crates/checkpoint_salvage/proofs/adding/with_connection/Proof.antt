@@ -1,11 +1,12 @@
 -- `adding::with_connection` meets its contract: the look-ups say whether the connection fits, and where it is added.
 use mathlib.Core.Path.{sym, _∙_}
 use borrow.Author.Tests.{not-true, not-false}
-use borrow.Author.Needs.{needs}
+use Rattle.table.specs.Words.{tableOf}
 use Rattle.spec_calls.specs.PathRules.{heldBy}
 use Rattle.spec_changes.proofs.Tables.{added-under, added-standalone}
 use Rattle.find_connection.proofs.Looks.{seen, call-inside}
 use Rattle.checkpoint_salvage.proofs.Fitting.{fits-by, fits-called}
+use borrow.Author.Needs.{needs}
 use Rattle.checkpoint_salvage.proofs.adding.with_connection.Statement.{statement}
 use Rattle.checkpoint_salvage.proofs.adding.with_connection.Tie as tie
 
@@ -23,11 +24,14 @@ has-room-requires c κs = search needs
 
 returns : tie.Need-returns
 returns c =
-    let l = c .before .before .before .before .before .before .before in
-    let u = l .before in
-    let a = u .before .before .args in
-    let s = seen (a .t) (heldBy (a .x)) _ _ (u .look-under .ensures) (l .look-standalone .ensures) in
-    let f = fits-by (a .t) (heldBy (a .x)) _ _ _ _ s (u .before .listing-of .ensures .0) (c .before .has-room .ensures) in
+    let r = c .before in
+    let l = r .before .before .before .before .before .before in
+    let u = l .before .before in
+    let m = u .before .before in
+    let t = tableOf (m .before .before .args .t .now) in
+    let x = heldBy (m .before .before .args .x) in
+    let s = seen t x _ _ (u .look-under .ensures) (l .look-standalone .ensures) in
+    let f = fits-by t x _ _ _ _ s (m .listing-of .ensures .0) (r .has-room .ensures) in
     rw (sym f ∙ not-true _ (c .if1 .taken))
 
 customer-of-requires : tie.Need-customer-of-requires
@@ -38,32 +42,39 @@ add-standalone-requires c κs = search needs
 
 returns-2 : tie.Need-returns-2
 returns-2 c =
-    let r = c .before .before .before .before in
+    let r = c .before .before .before .before .before .before in
     let l = r .before .before .before .before .before .before in
-    let u = l .before in
-    let a = u .before .before .args in
-    let s = seen (a .t) (heldBy (a .x)) _ _ (u .look-under .ensures) (l .look-standalone .ensures) in
-    let f = fits-by (a .t) (heldBy (a .x)) _ _ _ _ s (u .before .listing-of .ensures .0) (r .has-room .ensures) in
-    rw (sym f ∙ not-false _ (c .before .before .before .if1 .left))
-    (c .add-standalone .ensures ∙ added-standalone (a .t) (heldBy (a .x)) _ (c .before .before .if2 .taken) (c .before .customer-of .ensures .0))
+    let u = l .before .before in
+    let m = u .before .before in
+    let t = tableOf (m .before .before .args .t .now) in
+    let x = heldBy (m .before .before .args .x) in
+    let s = seen t x _ _ (u .look-under .ensures) (l .look-standalone .ensures) in
+    let f = fits-by t x _ _ _ _ s (m .listing-of .ensures .0) (r .has-room .ensures) in
+    rw (sym f ∙ not-false _ (c .before .before .before .before .before .if1 .left))
+    (c .add-standalone .ensures ∙ added-standalone t x _ (c .before .before .before .before .if2 .taken) (c .before .before .customer-of .ensures .0))
 
 add-under-requires : tie.Need-add-under-requires
 add-under-requires c κs =
-    let l = c .before .before .before .before .before .before .before .before in
-    let u = l .before in
-    let a = u .before .before .args in
-    call-inside (a .t) (heldBy (a .x)) _ (u .look-under .ensures) (fits-called (heldBy (a .x)) (u .before .listing-of .result .known) (c .before .before .has-room .result) (u .look-under .result) (l .look-standalone .result) (not-false _ (c .before .if1 .left))) (c .if2 .left)
+    let r = c .before .before .before in
+    let l = r .before .before .before .before .before .before in
+    let u = l .before .before in
+    let m = u .before .before in
+    let t = tableOf (m .before .before .args .t .now) in
+    let x = heldBy (m .before .before .args .x) in
+    call-inside t x _ (u .look-under .ensures) (fits-called x (m .listing-of .result .known) (r .has-room .result) (u .look-under .result) (l .look-standalone .result) (not-false _ (c .before .before .if1 .left))) (c .before .if2 .left)
 
 returns-3 : tie.Need-returns-3
 returns-3 c =
-    let r = c .before .before .before in
+    let r = c .before .before .before .before in
     let l = r .before .before .before .before .before .before in
-    let u = l .before in
-    let a = u .before .before .args in
-    let s = seen (a .t) (heldBy (a .x)) _ _ (u .look-under .ensures) (l .look-standalone .ensures) in
-    let f = fits-by (a .t) (heldBy (a .x)) _ _ _ _ s (u .before .listing-of .ensures .0) (r .has-room .ensures) in
-    rw (sym f ∙ not-false _ (c .before .before .if1 .left))
-    (c .add-under .ensures ∙ added-under (a .t) (heldBy (a .x)) _ (c .before .if2 .left) (s .slot))
+    let u = l .before .before in
+    let m = u .before .before in
+    let t = tableOf (m .before .before .args .t .now) in
+    let x = heldBy (m .before .before .args .x) in
+    let s = seen t x _ _ (u .look-under .ensures) (l .look-standalone .ensures) in
+    let f = fits-by t x _ _ _ _ s (m .listing-of .ensures .0) (r .has-room .ensures) in
+    rw (sym f ∙ not-false _ (c .before .before .before .if1 .left))
+    (c .add-under .ensures ∙ added-under t x _ (c .before .before .if2 .left) (s .slot))
 
 pub with-connection-spec : {M : Type 1} → statement M
 with-connection-spec =

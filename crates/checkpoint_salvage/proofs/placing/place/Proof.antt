@@ -1,19 +1,41 @@
 -- `placing::place` meets its contract: the callees' promises, one put into the other.
+use Rattle.table.specs.Words.{tableOf}
+use Rattle.spec_checkpoint.specs.Layout.{callRecord}
+use Rattle.checkpoint_salvage.proofs.Placed.{placed-by}
 use borrow.Author.Needs.{needs}
 use Rattle.checkpoint_salvage.proofs.placing.place.Statement.{statement}
 use Rattle.checkpoint_salvage.proofs.placing.place.Tie as tie
 
-to-usize-requires : tie.Need-to-usize-requires
-to-usize-requires c κs = search needs
+occupied-requires : tie.Need-occupied-requires
+occupied-requires c κs = search needs
 
 flip-requires : tie.Need-flip-requires
 flip-requires c κs = search needs
 
-with-slot-requires : tie.Need-with-slot-requires
-with-slot-requires c κs = search needs
+record-words-requires : tie.Need-record-words-requires
+record-words-requires c κs = search needs
+
+put-slot-requires : tie.Need-put-slot-requires
+put-slot-requires c κs = search needs
+
+set-occupied-requires : tie.Need-set-occupied-requires
+set-occupied-requires c κs = search needs
 
 returns : tie.Need-returns
-returns c = rw (c .with-slot .ensures, c .before .flip .ensures, c .before .before .before .to-usize .ensures .0)
+returns c =
+    let p = c .before .before in
+    let w = p .before .before .before in
+    let o = w .before .before in
+    let z = o .before .before .before in
+    placed-by (tableOf (z .args .t .now)) _ _ (callRecord (z .args .s .now) (z .args .i)) _ _ _ _ (z .pre .1) (o .occupied .ensures) (w .before .flip .ensures) (w .record-words .ensures) (p .put-slot .ensures) (c .set-occupied .ensures)
 
 pub place-spec : {M : Type 1} → statement M
-place-spec = tie.close (tie.spec to-usize-requires flip-requires with-slot-requires returns)
+place-spec =
+    tie.close
+    (tie.spec
+    occupied-requires
+    flip-requires
+    record-words-requires
+    put-slot-requires
+    set-occupied-requires
+    returns)

@@ -1,31 +1,29 @@
--- `slots::put_calls` meets its contract: each turn writes one place behind those before it.
+-- `slots::put_calls` meets its contract: each turn writes one slot behind those before it.
 use Prim.Native.Nat.{_≤_, _-_}
 use native.Mathlib.Omega.{arith}
-use mathlib.Core.Path.{_≡_}
-use borrow.Author.Needs.{needs}
+use mathlib.Core.Path.{_≡_, sym, ap, _∙_}
 use Rattle.table.specs.Total.{total}
 use Rattle.table.specs.Lists.{callAt}
 use Rattle.table.specs.Word.{isUsed}
+use Rattle.table.specs.Words.{tableOf}
 use Rattle.checkpoint_write.specs.Bytes.{slotBytes, callsBytes}
 use Rattle.checkpoint_write.proofs.Grown.{Reached, none, room, within-turn, turn}
-use Rattle.checkpoint_write.proofs.Parts.{used-short}
+use Rattle.checkpoint_write.proofs.Parts.{used-writable}
+use borrow.Author.Needs.{needs}
 use Rattle.checkpoint_write.proofs.slots.put_calls.Statement.{statement}
 use Rattle.checkpoint_write.proofs.slots.put_calls.Tie as tie
 
 abbrev Inv-loop : tie.InvT-loop
-Inv-loop out₀ t at₀ i₀ out at i = (i ≤ total) × Reached (λ i. slotBytes (isUsed (t .occupied) i) i (callAt t i)) out₀ i at out
+Inv-loop out₀ t word at₀ i₀ out at i = (i ≤ total) × Reached (λ i. slotBytes (isUsed (tableOf t .occupied) i) i (callAt (tableOf t) i)) out₀ i at out
 
 abbrev μ-loop : tie.MeasureT-loop
-μ-loop out₀ t at₀ i₀ out at i = total - i
+μ-loop out₀ t word at₀ i₀ out at i = total - i
+
+occupied-requires : tie.Need-occupied-requires Inv-loop μ-loop
+occupied-requires c κs = search needs
 
 loop-holds : tie.Need-loop-holds Inv-loop μ-loop
 loop-holds c = (omega arith, none _ _)
-
-mul-c : tie.Need-mul-c Inv-loop μ-loop
-mul-c c = search needs
-
-element-copy-out-c : tie.Need-element-copy-out-c Inv-loop μ-loop
-element-copy-out-c c = search needs
 
 sub-put-slot : tie.Need-sub-put-slot Inv-loop μ-loop
 sub-put-slot c = search needs
@@ -42,17 +40,21 @@ is-used-requires c κs = search needs
 put-slot-requires : tie.Need-put-slot-requires Inv-loop μ-loop
 unfolding callsBytes
 put-slot-requires c κs =
-    let l = c .before .before .before .before in
-    let s = l .before .before in
-    rw (c .is-used .ensures) (omega arith, used-short (s .args .t2) (s .pre .0) (l .loop .i) (omega arith), room _ _ _ total (omega arith) (s .pre .1) (l .loop .inv .1))
+    let l = c .before .before .before in
+    let s = l .before .before .before in
+    let i = l .loop .i in
+    let used = c .is-used .ensures ∙ ap (λ w. isUsed w i) (l .before .occupied .ensures) in
+    (omega arith, λ h. used-writable (tableOf (s .args .t .now)) (s .pre .0) i (omega arith) (sym used ∙ h), rw used (room _ _ _ total (omega arith) (s .pre .1) (l .loop .inv .1)))
 
 add-at : tie.Need-add-at Inv-loop μ-loop
 unfolding callsBytes
 add-at c =
     let p = c .before .before in
-    let l = p .before .before .before .before .before in
-    let w = rw (p .before .is-used .ensures) at (p .put-slot .ensures) in
-    omega (arith, within-turn _ _ _ total (omega arith) (l .before .before .pre .1) (l .loop .inv .1) _ (w .count))
+    let l = p .before .before .before .before in
+    let s = l .before .before .before in
+    let used = p .before .is-used .ensures ∙ ap (λ w. isUsed w (l .loop .i)) (l .before .occupied .ensures) in
+    let w = rw used at (p .put-slot .ensures) in
+    omega (arith, within-turn _ _ _ total (omega arith) (s .pre .1) (l .loop .inv .1) _ (w .count))
 
 add-i : tie.Need-add-i Inv-loop μ-loop
 add-i c = search needs
@@ -64,8 +66,10 @@ loop-again : tie.Need-loop-again Inv-loop μ-loop
 unfolding callsBytes
 loop-again c =
     let p = c .before .before in
-    let l = p .before .before .before .before .before in
-    (omega arith, turn _ _ _ total (omega arith) (l .before .before .pre .1) (l .loop .inv .1) (rw (p .before .is-used .ensures) at (p .put-slot .ensures)))
+    let l = p .before .before .before .before in
+    let s = l .before .before .before in
+    let used = p .before .is-used .ensures ∙ ap (λ w. isUsed w (l .loop .i)) (l .before .occupied .ensures) in
+    (omega arith, turn _ _ _ total (omega arith) (s .pre .1) (l .loop .inv .1) (rw used at (p .put-slot .ensures)))
 
 same-length : tie.Need-same-length Inv-loop μ-loop
 same-length c = search needs
@@ -82,9 +86,8 @@ put-calls-spec =
     (tie.spec
     Inv-loop
     μ-loop
+    occupied-requires
     loop-holds
-    mul-c
-    element-copy-out-c
     sub-put-slot
     part-put-slot-start
     part-put-slot-end

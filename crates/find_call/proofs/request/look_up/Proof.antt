@@ -2,33 +2,39 @@
 use Prim.Native.Nat.{_≤_, _-_}
 use native.Mathlib.Omega.{arith}
 use mathlib.Core.Path.{_≡_, _∙_}
-use borrow.Author.Needs.{needs}
+use Rattle.table.specs.Words.{tableOf}
 use Rattle.spec_calls.specs.CallRules.{idsIn}
 use Rattle.find_call.proofs.Looked.{Looked, look-none, look-turn, look-all}
+use borrow.Author.Needs.{needs}
 use Rattle.find_call.proofs.request.look_up.Statement.{statement}
 use Rattle.find_call.proofs.request.look_up.Tie as tie
 
 abbrev Inv-loop : tie.InvT-loop
-Inv-loop msg q t known₀ long₀ short₀ busy₀ slot₀ i₀ known long short busy slot i =
-    (i ≤ 64) × Looked t (idsIn msg q) i (record { known = known; long = long; short = short; busy = busy; slot = slot })
+Inv-loop t msg q word name known₀ long₀ short₀ busy₀ slot₀ i₀ known long short busy slot i =
+    (i ≤ 64) × Looked (tableOf t) (idsIn msg q) i (record { known = known; long = long; short = short; busy = busy; slot = slot })
 
 abbrev μ-loop : tie.MeasureT-loop
-μ-loop msg q t known₀ long₀ short₀ busy₀ slot₀ i₀ known long short busy slot i = 64 - i
+μ-loop t msg q word name known₀ long₀ short₀ busy₀ slot₀ i₀ known long short busy slot i = 64 - i
+
+occupied-requires : tie.Need-occupied-requires Inv-loop μ-loop
+occupied-requires c κs = search needs
+
+name-words-requires : tie.Need-name-words-requires Inv-loop μ-loop
+name-words-requires c κs = search needs
 
 loop-holds : tie.Need-loop-holds Inv-loop μ-loop
 loop-holds c = (omega arith, look-none _ _)
-
-mul-c : tie.Need-mul-c Inv-loop μ-loop
-mul-c c = search needs
-
-element-copy-out-c : tie.Need-element-copy-out-c Inv-loop μ-loop
-element-copy-out-c c = search needs
 
 is-used-requires : tie.Need-is-used-requires Inv-loop μ-loop
 is-used-requires c κs = search needs
 
 match-slot-requires : tie.Need-match-slot-requires Inv-loop μ-loop
-match-slot-requires c κs = search needs
+match-slot-requires c κs =
+    let u = c .before in
+    let n = u .before .before .before in
+    let z = n .before .before .before in
+    let p = z .pre in
+    (omega arith, rw (n .before .occupied .ensures) at (u .is-used .ensures), p .0, p .1, p .2, n .name-words .ensures)
 
 select-requires : tie.Need-select-requires Inv-loop μ-loop
 select-requires c κs = search needs
@@ -44,11 +50,12 @@ loop-less c = search needs
 
 loop-again : tie.Need-loop-again Inv-loop μ-loop
 loop-again c =
-    let o = c .before .before .before in
-    let m = o .before .before .before in
-    let u = m .before .is-used .ensures in
+    let s = c .before .before .before in
+    let m = s .before .before .before in
+    let l = m .before .before .before .before in
+    let u = rw (l .before .before .occupied .ensures) at (m .before .before .is-used .ensures) in
     let p = m .match-slot .ensures in
-    (omega arith, look-turn _ _ _ _ _ _ _ _ _ (m .before .before .before .before .loop .inv .1) (p .0 ∙ rw u) (p .1 ∙ rw u) (p .2 ∙ rw u) (o .before .select .ensures) (o .select2 .ensures))
+    (omega arith, look-turn _ _ _ _ _ _ _ _ _ (l .loop .inv .1) (p .0 ∙ rw u) (p .1 ∙ rw u) (p .2 ∙ rw u) (s .before .select .ensures) (s .select2 .ensures))
 
 returns : tie.Need-returns Inv-loop μ-loop
 returns c =
@@ -61,9 +68,9 @@ look-up-spec =
     (tie.spec
     Inv-loop
     μ-loop
+    occupied-requires
+    name-words-requires
     loop-holds
-    mul-c
-    element-copy-out-c
     is-used-requires
     match-slot-requires
     select-requires

@@ -1,26 +1,79 @@
 -- `request::match_slot` meets its contract: every test is one of the pair first, and what is called promises the rest.
-use borrow.Author.Needs.{needs}
+use native.Mathlib.Omega.{arith}
+use Prim.Native.Nat.{ℕ}
+use mathlib.Core.Path.{sym, ap, ap₂, _∙_}
+use mathlib.Core.List.{List}
+use mathlib.Core.Bool.{Bool, _&&_}
+use lib.Dec.{eqb}
+use borrow.Author.Tests.{not-false}
+use Rattle.lists.proofs.Tests.{both}
+use Rattle.table.specs.Lists.{callAt, callFour}
+use Rattle.table.specs.Rules.{sameBytes}
+use Rattle.table.specs.Words.{tableOf}
+use Rattle.table_words.proofs.Alike.{alike-held}
+use Rattle.spec_calls.specs.CallRules.{idsIn}
+use Rattle.spec_calls.proofs.Names.{name-size}
 use Rattle.find_call.proofs.Beside.{another-pair, the-pair}
+use Rattle.find_call.proofs.Padded.{names-whole}
+use Rattle.find_call.proofs.Named.{open-size, open-zeros, name-room}
+use borrow.Author.Needs.{needs}
 use Rattle.find_call.proofs.request.match_slot.Statement.{statement}
 use Rattle.find_call.proofs.request.match_slot.Tie as tie
 
+call-head-requires : tie.Need-call-head-requires
+call-head-requires c κs = search needs
+
 returns : tie.Need-returns
 returns c =
-    let z = c .before .before .before .before .before .before .args in
-    another-pair _ (z .c) (z .used) (c .if1 .taken)
+    let h = c .before .before .before .before .before in
+    let a = h .before .before .args in
+    another-pair (idsIn (a .msg .now) (a .q)) (callAt (tableOf (a .t .now)) (a .i)) (a .used) (rw (h .call-head .ensures) at (c .if1 .taken))
 
-same-name-requires : tie.Need-same-name-requires
-same-name-requires c κs = search needs
+is-call-requires : tie.Need-is-call-requires
+is-call-requires c κs = search needs
 
-has-connections-requires : tie.Need-has-connections-requires
-has-connections-requires c κs = search needs
+call-four-requires : tie.Need-call-four-requires
+call-four-requires c κs = search needs
+
+has-taken-requires : tie.Need-has-taken-requires
+has-taken-requires c κs = search needs
+
+is-size-requires : tie.Need-is-size-requires
+is-size-requires c κs = search needs
+
+is-named-requires : tie.Need-is-named-requires
+is-named-requires c κs = search needs
 
 returns-2 : tie.Need-returns-2
 returns-2 c =
     let i = c .before .before .before .before .before in
-    let z = i .before .before .before .before .before .before .args in
-    the-pair _ (z .c) (z .used) (i .if1 .left) _ _ (c .before .same-name .ensures) (c .has-connections .ensures)
+    let h = i .before .before .before .before .before in
+    let z = h .before .before in
+    let a = z .args in
+    let p = z .pre in
+    let w = a .t .now in
+    let t = tableOf w in
+    let d = callAt t (a .i) in
+    let ids = idsIn (a .msg .now) (a .q) in
+    let no = rw (h .call-head .ensures) at (i .if1 .left) in
+    let used = sym (p .1) ∙ both _ _ (not-false _ no) .0 in
+    let size = name-size (a .msg .now) (a .q) (p .3) in
+    let long = names-whole (ids .long) (d .name) (d .size) (omega (arith, size, p .4)) (name-room w (a .i) (p .0)) (open-size t (a .i) (p .0) (p .2) used) (open-zeros t (a .i) (p .0) (p .2) used) in
+    let held = alike-held _ (callFour d) (c .before .before .before .call-four .ensures .0) in
+    the-pair ids d (a .used) no _ _ _
+    (ap₂ (λ (a b : Bool). a && b) (c .before .is-size .ensures ∙ ap₂ (λ (n m : ℕ). eqb n m) (sym size) (ap (λ h. h .size) (h .call-head .ensures))) (c .is-named .ensures ∙ ap (λ (n : List ℕ). sameBytes n (d .name)) (p .5)) ∙ long)
+    (c .before .before .before .before .is-call .ensures ∙ rw (h .call-head .ensures))
+    (c .before .before .has-taken .ensures ∙ rw held)
 
 pub match-slot-spec : {M : Type 1} → statement M
 match-slot-spec =
-    tie.close (tie.spec returns same-name-requires has-connections-requires returns-2)
+    tie.close
+    (tie.spec
+    call-head-requires
+    returns
+    is-call-requires
+    call-four-requires
+    has-taken-requires
+    is-size-requires
+    is-named-requires
+    returns-2)

@@ -2,29 +2,30 @@
 use Prim.Native.Nat.{_≤_, _-_}
 use native.Mathlib.Omega.{arith}
 use mathlib.Core.Path.{_≡_, refl, sym, _∙_}
-use borrow.Author.Needs.{needs}
 use Rattle.lists.specs.Count.{count}
 use Rattle.lists.specs.Below.{below}
 use Rattle.lists.proofs.Below.{count-none, count-turn}
 use Rattle.table.specs.Lists.{openAt}
 use Rattle.table.specs.Share.{from}
+use Rattle.table.specs.Words.{tableOf}
+use borrow.Author.Needs.{needs}
 use Rattle.find_call.proofs.share.calls_of.Statement.{statement}
 use Rattle.find_call.proofs.share.calls_of.Tie as tie
 
 abbrev Inv-loop : tie.InvT-loop
-Inv-loop address t n₀ i₀ n i = (i ≤ 64) × (n ≤ i) × (n ≡ count (from address) (below (openAt t) i))
+Inv-loop t address word n₀ i₀ n i = (i ≤ 64) × (n ≤ i) × (n ≡ count (from address) (below (openAt (tableOf t)) i))
 
 abbrev μ-loop : tie.MeasureT-loop
-μ-loop address t n₀ i₀ n i = 64 - i
+μ-loop t address word n₀ i₀ n i = 64 - i
+
+occupied-requires : tie.Need-occupied-requires Inv-loop μ-loop
+occupied-requires c κs = search needs
 
 loop-holds : tie.Need-loop-holds Inv-loop μ-loop
 loop-holds c = (omega arith, omega arith, sym (count-none _ _))
 
-mul-c : tie.Need-mul-c Inv-loop μ-loop
-mul-c c = search needs
-
-element-copy-out-c : tie.Need-element-copy-out-c Inv-loop μ-loop
-element-copy-out-c c = search needs
+call-head-requires : tie.Need-call-head-requires Inv-loop μ-loop
+call-head-requires c κs = search needs
 
 is-used-requires : tie.Need-is-used-requires Inv-loop μ-loop
 is-used-requires c κs = search needs
@@ -43,8 +44,11 @@ loop-less c = search needs
 
 loop-again : tie.Need-loop-again Inv-loop μ-loop
 loop-again c =
-    let l = c .before .before .before .before .before in
-    (omega arith, omega arith, count-turn _ _ _ _ _ _ _ refl (l .loop .inv .2) (c .one-if .ensures .0 ∙ rw (c .before .before .is-used .ensures)))
+    let u = c .before .before in
+    let l = u .before .before .before in
+    let o = c .one-if .ensures in
+    let used = rw (l .before .occupied .ensures) at (u .is-used .ensures) in
+    (omega arith, omega arith, count-turn _ _ _ _ _ _ _ refl (l .loop .inv .2) (o .0 ∙ rw (used, u .before .call-head .ensures)))
 
 returns : tie.Need-returns Inv-loop μ-loop
 returns c =
@@ -57,9 +61,9 @@ calls-of-spec =
     (tie.spec
     Inv-loop
     μ-loop
+    occupied-requires
     loop-holds
-    mul-c
-    element-copy-out-c
+    call-head-requires
     is-used-requires
     one-if-requires
     add-n

@@ -1,50 +1,42 @@
 -- `share::listing_of` meets its contract: after `k` turns it knows of the first `k` customers.
-use Prim.Native.Nat.{ℕ, _≤_, _-_}
+use Prim.Native.Nat.{_≤_, _-_}
 use native.Mathlib.Omega.{arith}
 use mathlib.Core.Path.{_≡_, refl, sym, ap, _∙_}
 use mathlib.Core.Bool.{_&&_}
-use lib.Dec.{ltb}
-use borrow.Author.Needs.{needs}
+use lib.Dec.{eqb, ltb}
 use Rattle.lists.specs.Below.{below}
 use Rattle.lists.proofs.Below.{has-none, has-turn, first-none, first-turn}
 use Rattle.table.specs.Lists.{termsOf, customerAt, listedAt}
 use Rattle.table.specs.Share.{isAt, listed, guaranteeOf, limitOf}
+use Rattle.table.specs.Words.{tableOf}
+use borrow.Author.Needs.{needs}
 use Rattle.find_call.proofs.share.listing_of.Statement.{statement}
 use Rattle.find_call.proofs.share.listing_of.Tie as tie
 
 abbrev Inv-loop : tie.InvT-loop
-Inv-loop address t n known₀ guarantee₀ limit₀ k₀ known guarantee limit k =
+Inv-loop t address n known₀ guarantee₀ limit₀ k₀ known guarantee limit k =
     (k ≤ 8)
-    × (known ≡ listed (below (listedAt t) k) address)
-    × (guarantee ≡ guaranteeOf (below (listedAt t) k) address)
-    × (limit ≡ limitOf (below (listedAt t) k) address)
+    × (known ≡ listed (below (listedAt (tableOf t)) k) address)
+    × (guarantee ≡ guaranteeOf (below (listedAt (tableOf t)) k) address)
+    × (limit ≡ limitOf (below (listedAt (tableOf t)) k) address)
 
 abbrev μ-loop : tie.MeasureT-loop
-μ-loop address t n known₀ guarantee₀ limit₀ k₀ known guarantee limit k = 8 - k
+μ-loop t address n known₀ guarantee₀ limit₀ k₀ known guarantee limit k = 8 - k
 
-to-usize-requires : tie.Need-to-usize-requires Inv-loop μ-loop
-to-usize-requires c κs = search needs
+listed-requires : tie.Need-listed-requires Inv-loop μ-loop
+listed-requires c κs = search needs
 
 loop-holds : tie.Need-loop-holds Inv-loop μ-loop
 loop-holds c = (omega arith, sym (has-none _ _), sym (first-none _ _ _), sym (first-none _ _ _))
 
-mul-m : tie.Need-mul-m Inv-loop μ-loop
-mul-m c = search needs
-
-element-copy-out-m : tie.Need-element-copy-out-m Inv-loop μ-loop
-element-copy-out-m c = search needs
-
-to-usize-requires-2 : tie.Need-to-usize-requires-2 Inv-loop μ-loop
-to-usize-requires-2 c κs = search needs
+customer-head-requires : tie.Need-customer-head-requires Inv-loop μ-loop
+customer-head-requires c κs = search needs
 
 number-if-requires : tie.Need-number-if-requires Inv-loop μ-loop
 number-if-requires c κs = search needs
 
 select-requires : tie.Need-select-requires Inv-loop μ-loop
 select-requires c κs = search needs
-
-to-usize-requires-3 : tie.Need-to-usize-requires-3 Inv-loop μ-loop
-to-usize-requires-3 c κs = search needs
 
 number-if-requires-2 : tie.Need-number-if-requires-2 Inv-loop μ-loop
 number-if-requires-2 c κs = search needs
@@ -60,15 +52,18 @@ loop-less c = search needs
 
 loop-again : tie.Need-loop-again Inv-loop μ-loop
 loop-again c =
-    let g = c .before .before .before in
-    let l = g .before .before .before .before .before .before in
+    let g = c .before .before in
+    let m = g .before .before .before in
+    let l = m .before .before in
     let i = l .loop .inv in
-    let z = l .before .before .args in
-    let here = ap (λ (n : ℕ). ltb (l .loop .k) n && isAt (z .address) (termsOf (customerAt (z .t1) (l .loop .k)))) (l .before .to-usize .ensures .0) in (
+    let a = l .before .before .args in
+    let e = m .customer-head .ensures .0 in
+    let here : (ltb (l .loop .k) (l .before .listed .result) && eqb (a .address) (m .customer-head .result .address)) ≡ (ltb (l .loop .k) (tableOf (a .t .now) .listed) && isAt (a .address) (termsOf (customerAt (tableOf (a .t .now)) (l .loop .k)))) =
+    rw (e, l .before .listed .ensures) in (
       omega arith,
       has-turn _ _ _ _ _ _ _ refl (i .1) here,
-      g .select .ensures ∙ rw (g .before .number-if .ensures .0, g .before .before .to-usize2 .ensures .0) (first-turn _ _ _ _ _ _ _ _ _ refl (i .1) (i .2) here),
-      c .select2 .ensures ∙ rw (c .before .number-if2 .ensures .0, c .before .before .to-usize3 .ensures .0) (first-turn _ _ _ _ _ _ _ _ _ refl (i .1) (i .3) here),
+      g .select .ensures ∙ rw (g .before .number-if .ensures .0, ap (λ m. m .guarantee) e) (first-turn _ _ _ _ _ _ _ _ _ refl (i .1) (i .2) here),
+      c .select2 .ensures ∙ rw (c .before .number-if2 .ensures .0, ap (λ m. m .limit) e) (first-turn _ _ _ _ _ _ _ _ _ refl (i .1) (i .3) here),
     )
 
 returns : tie.Need-returns Inv-loop μ-loop
@@ -83,14 +78,11 @@ listing-of-spec =
     (tie.spec
     Inv-loop
     μ-loop
-    to-usize-requires
+    listed-requires
     loop-holds
-    mul-m
-    element-copy-out-m
-    to-usize-requires-2
+    customer-head-requires
     number-if-requires
     select-requires
-    to-usize-requires-3
     number-if-requires-2
     select-requires-2
     add-k

@@ -1,6 +1,6 @@
 -- `share::share_used_up` meets its contract: what is called promises the four numbers of the rule.
-use borrow.Author.Needs.{needs}
 use Rattle.spec_calls.specs.CallRules.{shareUsedUp}
+use borrow.Author.Needs.{needs}
 use Rattle.find_call.proofs.share.share_used_up.Statement.{statement}
 use Rattle.find_call.proofs.share.share_used_up.Tie as tie
 

@@ -3,34 +3,34 @@ use Prim.Native.Nat.{_≤_, _-_, _*_}
 use native.Mathlib.Omega.{arith}
 use mathlib.Core.Path.{_≡_, refl}
 use lib.Dec.{ltb}
-use borrow.Author.Needs.{needs}
-use Rattle.table.specs.Lists.{customerAt, standaloneIn, standaloneAt}
+use Rattle.table.specs.Lists.{customerAt, customerFour, heldIn, standaloneAt}
+use Rattle.table.specs.Words.{tableOf}
+use Rattle.table_words.proofs.Alike.{alike-held}
 use Rattle.spec_calls.specs.PathRules.{heldBy}
 use Rattle.find_connection.specs.Looks.{standaloneLookOf}
 use Rattle.find_connection.proofs.Rows.{Looked, looked-none, looked-turn}
+use borrow.Author.Needs.{needs}
 use Rattle.find_connection.proofs.standalone.look_standalone.Statement.{statement}
 use Rattle.find_connection.proofs.standalone.look_standalone.Tie as tie
 
 abbrev Inv-loop : tie.InvT-loop
-Inv-loop x t n other₀ held₀ at₀ four₀ k₀ other held at four k = (k ≤ 8) × (four ≤ 4 * k) × Looked (standaloneAt t) (heldBy x) k other held at four
+Inv-loop t x n other₀ held₀ at₀ four₀ k₀ other held at four k =
+    (k ≤ 8) × (four ≤ 4 * k) × Looked (standaloneAt (tableOf t)) (heldBy x) k other held at four
 
 abbrev μ-loop : tie.MeasureT-loop
-μ-loop x t n other₀ held₀ at₀ four₀ k₀ other held at four k = 8 - k
+μ-loop t x n other₀ held₀ at₀ four₀ k₀ other held at four k = 8 - k
 
-to-usize-requires : tie.Need-to-usize-requires Inv-loop μ-loop
-to-usize-requires c κs = search needs
+listed-requires : tie.Need-listed-requires Inv-loop μ-loop
+listed-requires c κs = search needs
 
 loop-holds : tie.Need-loop-holds Inv-loop μ-loop
 loop-holds c = (omega arith, omega arith, looked-none _ _)
 
-mul-c : tie.Need-mul-c Inv-loop μ-loop
-mul-c c = search needs
+customer-four-requires : tie.Need-customer-four-requires Inv-loop μ-loop
+customer-four-requires c κs = search needs
 
-element-copy-out-c : tie.Need-element-copy-out-c Inv-loop μ-loop
-element-copy-out-c c = search needs
-
-match-customer-requires : tie.Need-match-customer-requires Inv-loop μ-loop
-match-customer-requires c κs = search needs
+match-four-requires : tie.Need-match-four-requires Inv-loop μ-loop
+match-four-requires c κs = search needs
 
 select-requires : tie.Need-select-requires Inv-loop μ-loop
 select-requires c κs = search needs
@@ -52,10 +52,11 @@ loop-again c =
     let at = c .before .before .before in
     let m = at .before .before in
     let l = m .before .before .before in
-    let t = l .before .before .args .t1 in
+    let t = tableOf (l .before .before .args .t .now) in
     let k = l .loop .k in
-    let e = rw (l .before .to-usize .ensures .0) at (m .match-customer .ensures) in
-    (omega arith, omega (arith, e .3), looked-turn _ _ (ltb k (t .listed)) (standaloneIn (customerAt t k)) refl (l .loop .inv .2) e (at .before .select .ensures) (at .select2 .ensures))
+    let four = customerFour (customerAt t k) in
+    let e = rw (l .before .listed .ensures, alike-held _ four (m .before .customer-four .ensures .0)) at (m .match-four .ensures) in
+    (omega arith, omega (arith, e .3), looked-turn _ _ (ltb k (t .listed)) (heldIn four) refl (l .loop .inv .2) e (at .before .select .ensures) (at .select2 .ensures))
 
 returns : tie.Need-returns Inv-loop μ-loop
 unfolding standaloneLookOf
@@ -71,11 +72,10 @@ look-standalone-spec =
     (tie.spec
     Inv-loop
     μ-loop
-    to-usize-requires
+    listed-requires
     loop-holds
-    mul-c
-    element-copy-out-c
-    match-customer-requires
+    customer-four-requires
+    match-four-requires
     select-requires
     select-requires-2
     add-four

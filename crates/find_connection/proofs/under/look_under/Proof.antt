@@ -1,41 +1,47 @@
 -- `under::look_under` meets its contract: after `i` turns it knows of the first `i` slots.
 use Prim.Native.Nat.{_≤_, _-_, _*_}
 use native.Mathlib.Omega.{arith}
-use mathlib.Core.Path.{_≡_, refl, sym, _∙_}
-use borrow.Author.Needs.{needs}
+use mathlib.Core.Path.{_≡_, refl, sym, ap₂, _∙_}
+use mathlib.Core.Bool.{Bool, _&&_}
 use Rattle.lists.proofs.Below.{has-when}
 use Rattle.table.specs.Total.{total}
 use Rattle.table.specs.Word.{isUsed}
-use Rattle.table.specs.Lists.{openAt, callAt, heldIn, heldAt}
+use Rattle.table.specs.Lists.{openAt, callAt, callFour, heldIn, heldAt}
+use Rattle.table.specs.Words.{tableOf}
+use Rattle.table_words.proofs.Alike.{alike-held}
 use Rattle.spec_changes.specs.Connections.{isCallOf}
 use Rattle.spec_calls.specs.PathRules.{heldBy}
 use Rattle.find_connection.specs.Looks.{underLookOf}
 use Rattle.find_connection.proofs.Rows.{Sought, sought-none, sought-turn, Looked, looked-none, looked-turn}
+use borrow.Author.Needs.{needs}
 use Rattle.find_connection.proofs.under.look_under.Statement.{statement}
 use Rattle.find_connection.proofs.under.look_under.Tie as tie
 
 abbrev Inv-loop : tie.InvT-loop
-Inv-loop x t other₀ held₀ at₀ four₀ known₀ slot₀ i₀ other held at four known slot i =
-    (i ≤ total) × (four ≤ 4 * i) × Looked (heldAt t) (heldBy x) i other held at four
-    × Sought (openAt t) (isCallOf (heldBy x)) i known slot
+Inv-loop t x word other₀ held₀ at₀ four₀ known₀ slot₀ i₀ other held at four known slot i =
+    (i ≤ total) × (four ≤ 4 * i) × Looked (heldAt (tableOf t)) (heldBy x) i other held at four
+    × Sought (openAt (tableOf t)) (isCallOf (heldBy x)) i known slot
 
 abbrev μ-loop : tie.MeasureT-loop
-μ-loop x t other₀ held₀ at₀ four₀ known₀ slot₀ i₀ other held at four known slot i = total - i
+μ-loop t x word other₀ held₀ at₀ four₀ known₀ slot₀ i₀ other held at four known slot i = total - i
+
+occupied-requires : tie.Need-occupied-requires Inv-loop μ-loop
+occupied-requires c κs = search needs
 
 loop-holds : tie.Need-loop-holds Inv-loop μ-loop
 loop-holds c = (omega arith, omega arith, looked-none _ _, sought-none _ _)
 
-mul-c : tie.Need-mul-c Inv-loop μ-loop
-mul-c c = search needs
-
-element-copy-out-c : tie.Need-element-copy-out-c Inv-loop μ-loop
-element-copy-out-c c = search needs
-
 is-used-requires : tie.Need-is-used-requires Inv-loop μ-loop
 is-used-requires c κs = search needs
 
-match-slot-requires : tie.Need-match-slot-requires Inv-loop μ-loop
-match-slot-requires c κs = search needs
+call-four-requires : tie.Need-call-four-requires Inv-loop μ-loop
+call-four-requires c κs = search needs
+
+match-four-requires : tie.Need-match-four-requires Inv-loop μ-loop
+match-four-requires c κs = search needs
+
+is-call-of-requires : tie.Need-is-call-of-requires Inv-loop μ-loop
+is-call-of-requires c κs = search needs
 
 select-requires : tie.Need-select-requires Inv-loop μ-loop
 select-requires c κs = search needs
@@ -60,17 +66,20 @@ loop-less c = search needs
 
 loop-again : tie.Need-loop-again Inv-loop μ-loop
 loop-again c =
-    let slot = c .before .before .before .before in
+    let slot = c .before .before .before in
     let at = slot .before .before in
-    let m = at .before .before in
+    let m = at .before .before .before in
     let l = m .before .before .before .before in
-    let t = l .before .args .t1 in
+    let t = tableOf (l .before .before .args .t .now) in
     let i = l .loop .i in
-    let e = rw (m .before .is-used .ensures) at (m .match-slot .ensures) in (
+    let used = rw (l .before .occupied .ensures) at (m .before .before .is-used .ensures) in
+    let four = callFour (callAt t i) in
+    let e = rw (used, alike-held _ four (m .before .call-four .ensures .0)) at (m .match-four .ensures) in
+    let here = ap₂ (λ (a b : Bool). a && b) used (at .before .before .is-call-of .ensures) in (
       omega arith,
       omega (arith, e .3),
-      looked-turn _ _ (isUsed (t .occupied) i) (heldIn (callAt t i)) refl (l .loop .inv .2) (e .0, e .1, e .2, e .3) (at .before .select .ensures) (at .select2 .ensures),
-      sought-turn _ _ _ (l .loop .inv .3) (e .4 ∙ sym (has-when _ _ _)) (slot .before .select3 .ensures) (slot .select4 .ensures),
+      looked-turn _ _ (isUsed (t .occupied) i) (heldIn four) refl (l .loop .inv .2) e (at .before .select .ensures) (at .select2 .ensures),
+      sought-turn _ _ _ (l .loop .inv .3) (here ∙ sym (has-when _ _ _)) (slot .before .select3 .ensures) (slot .select4 .ensures),
     )
 
 returns : tie.Need-returns Inv-loop μ-loop
@@ -88,11 +97,12 @@ look-under-spec =
     (tie.spec
     Inv-loop
     μ-loop
+    occupied-requires
     loop-holds
-    mul-c
-    element-copy-out-c
     is-used-requires
-    match-slot-requires
+    call-four-requires
+    match-four-requires
+    is-call-of-requires
     select-requires
     select-requires-2
     select-requires-3

@@ -1,11 +1,12 @@
 -- `handle_checked`: each return has the tests of its form; a message of no fault goes to the rules.
-use Rattle.outcomes.proofs.Unanswered.{left-quiet}
-use Rattle.outcomes.proofs.Handled.{handled-faulty, handled-sound, form-small, form-refused, form-unfit, form-unfit-unlisted, form-sound, form-unlisted}
-use Rattle.answers.specs.declared.answer.Answer.the-variants.{BufferTooSmall, Malformed, SenderNotListed}
-use Rattle.table.specs.Share.{listed}
-use Rattle.table.specs.Lists.{roster}
-use Rattle.messages.proofs.Inside.{read-inside}
 use mathlib.Core.Path.{sym, ap, _∙_}
+use Rattle.messages.proofs.Inside.{read-inside}
+use Rattle.table.specs.Lists.{roster}
+use Rattle.table.specs.Share.{listed}
+use Rattle.table.specs.Words.{tableOf}
+use Rattle.answers.specs.declared.answer.Answer.the-variants.{BufferTooSmall, Malformed, SenderNotListed}
+use Rattle.outcomes.proofs.Handled.{handled-faulty, handled-sound, form-small, form-refused, form-unfit, form-unfit-unlisted, form-sound, form-unlisted}
+use Rattle.outcomes.proofs.Unanswered.{left-quiet}
 use borrow.Author.Needs.{needs}
 use Rattle.node.proofs.handle.handle_checked.Statement.{statement}
 use Rattle.node.proofs.handle.handle_checked.Tie as tie
@@ -16,8 +17,9 @@ unanswered-requires c κs = search needs
 returns : tie.Need-returns
 returns c =
     let s = c .before .before .before .before in
-    left-quiet (s .args .t) _ BufferTooSmall _ (c .unanswered .ensures)
-    ∙ sym (handled-faulty (s .args .t) _ _ BufferTooSmall (s .pre) (form-small _ _ _ (search needs)))
+    let t = tableOf (s .args .t .now) in
+    left-quiet t _ BufferTooSmall _ (c .unanswered .ensures)
+    ∙ sym (handled-faulty t _ _ BufferTooSmall (s .pre) (form-small _ _ _ (search needs)))
 
 read-requires : tie.Need-read-requires
 read-requires c κs = search needs
@@ -39,10 +41,11 @@ unanswered-requires-3 c κs = search needs
 
 returns-2 : tie.Need-returns-2
 returns-2 c =
-    let s = c .before .before .before .before .before .before .before .before .before .before in
-    left-quiet (s .args .t) _ (Malformed _) _ (c .unanswered3 .ensures)
-    ∙ sym (handled-faulty (s .args .t) _ _ (Malformed _) (s .pre)
-    (form-unfit _ _ _ (search needs) _ _ _ (sym (c .before .before .before .before .before .before .read .ensures) ∙ c .before .before .before .before .x2 .given .1) (sym (c .before .before .listing-of .ensures .0) ∙ c .before .if2 .taken)))
+    let s = c .before .before .before .before .before .before .before .before .before .before .before in
+    let t = tableOf (s .args .t .now) in
+    left-quiet t _ (Malformed _) _ (c .unanswered3 .ensures)
+    ∙ sym (handled-faulty t _ _ (Malformed _) (s .pre)
+    (form-unfit _ _ _ (search needs) _ _ _ (sym (c .before .before .before .before .before .before .before .read .ensures) ∙ c .before .before .before .before .before .x2 .given .1) (sym (c .before .before .listing-of .ensures .0) ∙ c .before .if2 .taken)))
 
 unanswered-requires-4 : tie.Need-unanswered-requires-4
 unanswered-requires-4 c κs = search needs
@@ -58,20 +61,24 @@ listing-of-requires-2 c κs = search needs
 
 handle-message-requires : tie.Need-handle-message-requires
 handle-message-requires c κs =
-    let s = c .before .before .before .before .before .before .before .before .before .before .before in
-    let e = sym (c .before .before .before .before .before .before .before .read .ensures) ∙ c .before .before .before .before .before .x3 .given .1 in
-    (s .pre, sym (c .before .before .listing-of2 .ensures .0 ∙ ap (listed (roster (s .args .t))) (c .before .before .before .sender-of .ensures)) ∙ c .before .if3 .taken, read-inside _ _ _ e, search needs)
+    let s = c .before .before .before .before .before .before .before .before .before .before .before .before .before in
+    let t = tableOf (s .args .t .now) in
+    let k = c .before .before .before in
+    let e = sym (c .before .before .before .before .before .before .before .before .before .read .ensures) ∙ c .before .before .before .before .before .before .before .x3 .given .1 in
+    (s .pre, sym (k .listing-of2 .ensures .0 ∙ ap (listed (roster t)) (k .before .sender-of .ensures)) ∙ c .before .before .if3 .taken, read-inside _ _ _ e, search needs)
 
 same-length : tie.Need-same-length
 same-length c = search needs
 
 returns-3 : tie.Need-returns-3
 returns-3 c =
-    let s = c .before .before .before .before .before .before .before .before .before .before .before .before .before .before in
-    let e = sym (c .before .before .before .before .before .before .before .before .before .before .read .ensures) ∙ c .before .before .before .before .before .before .before .before .x3 .given .1 in
+    let s = c .before .before .before .before .before .before .before .before .before .before .before .before .before .before .before .before in
+    let t = tableOf (s .args .t .now) in
+    let k = c .before .before .before .before .before .before in
+    let e = sym (c .before .before .before .before .before .before .before .before .before .before .before .before .read .ensures) ∙ c .before .before .before .before .before .before .before .before .before .before .x3 .given .1 in
     c .before .before .handle-message .ensures
-    ∙ sym (handled-sound (s .args .t) _ _ _ (s .pre)
-    (form-sound _ _ _ (search needs) _ _ e (sym (c .before .before .before .before .before .listing-of2 .ensures .0 ∙ ap (listed (roster (s .args .t))) (c .before .before .before .before .before .before .sender-of .ensures)) ∙ c .before .before .before .before .if3 .taken)))
+    ∙ sym (handled-sound t _ _ _ (s .pre)
+    (form-sound _ _ _ (search needs) _ _ e (sym (k .listing-of2 .ensures .0 ∙ ap (listed (roster t)) (k .before .sender-of .ensures)) ∙ c .before .before .before .before .before .if3 .taken)))
 
 unanswered-requires-5 : tie.Need-unanswered-requires-5
 unanswered-requires-5 c κs = search needs
@@ -79,23 +86,27 @@ unanswered-requires-5 c κs = search needs
 returns-4 : tie.Need-returns-4
 returns-4 c =
     let s = c .before .before .before .before .before .before .before .before in
-    left-quiet (s .args .t) _ (Malformed _) _ (c .unanswered2 .ensures)
-    ∙ sym (handled-faulty (s .args .t) _ _ (Malformed _) (s .pre) (form-refused _ _ _ (search needs) _ _ _ (sym (c .before .before .before .before .read .ensures) ∙ c .before .before .x .given .1)))
+    let t = tableOf (s .args .t .now) in
+    left-quiet t _ (Malformed _) _ (c .unanswered2 .ensures)
+    ∙ sym (handled-faulty t _ _ (Malformed _) (s .pre) (form-refused _ _ _ (search needs) _ _ _ (sym (c .before .before .before .before .read .ensures) ∙ c .before .before .x .given .1)))
 
 returns-5 : tie.Need-returns-5
 returns-5 c =
-    let s = c .before .before .before .before .before .before .before .before .before .before in
-    left-quiet (s .args .t) _ SenderNotListed _ (c .unanswered4 .ensures)
-    ∙ sym (handled-faulty (s .args .t) _ _ SenderNotListed (s .pre)
-    (form-unfit-unlisted _ _ _ (search needs) _ _ _ (sym (c .before .before .before .before .before .before .read .ensures) ∙ c .before .before .before .before .x2 .given .1) (sym (c .before .before .listing-of .ensures .0) ∙ c .before .if2 .left)))
+    let s = c .before .before .before .before .before .before .before .before .before .before .before in
+    let t = tableOf (s .args .t .now) in
+    left-quiet t _ SenderNotListed _ (c .unanswered4 .ensures)
+    ∙ sym (handled-faulty t _ _ SenderNotListed (s .pre)
+    (form-unfit-unlisted _ _ _ (search needs) _ _ _ (sym (c .before .before .before .before .before .before .before .read .ensures) ∙ c .before .before .before .before .before .x2 .given .1) (sym (c .before .before .listing-of .ensures .0) ∙ c .before .if2 .left)))
 
 returns-6 : tie.Need-returns-6
 returns-6 c =
-    let s = c .before .before .before .before .before .before .before .before .before .before .before in
-    left-quiet (s .args .t) _ SenderNotListed _ (c .unanswered5 .ensures)
-    ∙ sym (handled-faulty (s .args .t) _ _ SenderNotListed (s .pre)
-    (form-unlisted _ _ _ (search needs) _ _ (sym (c .before .before .before .before .before .before .before .read .ensures) ∙ c .before .before .before .before .before .x3 .given .1)
-    (sym (c .before .before .listing-of2 .ensures .0 ∙ ap (listed (roster (s .args .t))) (c .before .before .before .sender-of .ensures)) ∙ c .before .if3 .left)))
+    let s = c .before .before .before .before .before .before .before .before .before .before .before .before in
+    let t = tableOf (s .args .t .now) in
+    let k = c .before .before in
+    left-quiet t _ SenderNotListed _ (c .unanswered5 .ensures)
+    ∙ sym (handled-faulty t _ _ SenderNotListed (s .pre)
+    (form-unlisted _ _ _ (search needs) _ _ (sym (c .before .before .before .before .before .before .before .before .read .ensures) ∙ c .before .before .before .before .before .before .x3 .given .1)
+    (sym (k .listing-of2 .ensures .0 ∙ ap (listed (roster t)) (k .before .sender-of .ensures)) ∙ c .before .if3 .left)))
 
 pub handle-checked-spec : {M : Type 1} → statement M
 handle-checked-spec =

@@ -7,49 +7,49 @@ enum-known-m : tie.Need-enum-known-m
 enum-known-m c = search needs
 
 open-call-requires : tie.Need-open-call-requires
-open-call-requires c κs = rw (c .before .before .m .given .1) at (c .before .before .before .before .before .before .pre)
+open-call-requires c κs = rw (c .before .before .before .m .given .1) at (c .before .before .before .before .before .before .before .pre)
 
 enum-known-m-2 : tie.Need-enum-known-m-2
 enum-known-m-2 c = search needs
 
 close-call-requires : tie.Need-close-call-requires
-close-call-requires c κs = let p = rw (c .before .before .m2 .given .1) at (c .before .before .before .before .before .before .pre) in (p .0, p .2, p .3)
+close-call-requires c κs = let p = rw (c .before .before .before .m2 .given .1) at (c .before .before .before .before .before .before .before .pre) in (p .0, p .2, p .3)
 
 enum-known-m-3 : tie.Need-enum-known-m-3
 enum-known-m-3 c = search needs
 
 add-connection-requires : tie.Need-add-connection-requires
-add-connection-requires c κs = rw (c .before .before .m3 .given .1) at (c .before .before .before .before .before .before .pre)
+add-connection-requires c κs = rw (c .before .before .before .m3 .given .1) at (c .before .before .before .before .before .before .before .pre)
 
 enum-known-m-4 : tie.Need-enum-known-m-4
 enum-known-m-4 c = search needs
 
 drop-connection-requires : tie.Need-drop-connection-requires
-drop-connection-requires c κs = c .before .before .before .before .before .before .pre .0
+drop-connection-requires c κs = search needs
 
 same-length : tie.Need-same-length
 same-length c = search needs
 
 returns : tie.Need-returns
-returns c = rw (c .before .before .before .before .before .m .given .1) (c .before .before .open-call .ensures)
+returns c = rw (c .before .before .before .before .before .before .m .given .1) (c .before .before .open-call .ensures)
 
 same-length-2 : tie.Need-same-length-2
 same-length-2 c = search needs
 
 returns-2 : tie.Need-returns-2
-returns-2 c = rw (c .before .before .before .before .before .m2 .given .1) (c .before .before .close-call .ensures)
+returns-2 c = rw (c .before .before .before .before .before .before .m2 .given .1) (c .before .before .close-call .ensures)
 
 same-length-3 : tie.Need-same-length-3
 same-length-3 c = search needs
 
 returns-3 : tie.Need-returns-3
-returns-3 c = rw (c .before .before .before .before .before .m3 .given .1) (c .before .before .add-connection .ensures)
+returns-3 c = rw (c .before .before .before .before .before .before .m3 .given .1) (c .before .before .add-connection .ensures)
 
 same-length-4 : tie.Need-same-length-4
 same-length-4 c = search needs
 
 returns-4 : tie.Need-returns-4
-returns-4 c = rw (c .before .before .before .before .before .m4 .given .1) (c .before .before .drop-connection .ensures)
+returns-4 c = rw (c .before .before .before .before .before .before .m4 .given .1) (c .before .before .drop-connection .ensures)
 
 pub handle-message-spec : {M : Type 1} → statement M
 handle-message-spec =

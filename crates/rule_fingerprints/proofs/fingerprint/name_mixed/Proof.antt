@@ -1,36 +1,39 @@
 -- `fingerprint::name_mixed` meets its contract: what is mixed so far, with the rest of the name, gives the whole.
 use Prim.Native.Nat.{_*_, _≤_, _-_, min}
 use native.Mathlib.Omega.{arith}
-use mathlib.Core.Path.{_≡_, sym, _∙_}
-use lib.ListN.{length, take, drop}
+use mathlib.Core.Path.{_≡_, refl, sym, ap, _∙_}
+use lib.ListN.{take, drop}
 use borrow.Author.Needs.{needs}
+use Rattle.table.specs.Lists.{callAt}
+use Rattle.table.specs.Words.{tableOf}
+use Rattle.table_words.specs.declared.calls.CallHead.{CallHead}
 use Rattle.rule_fingerprints.specs.Fingerprints.{mixed}
-use Rattle.rule_fingerprints.proofs.Mix.{mix-turn, mix-ends}
+use Rattle.rule_fingerprints.proofs.Mix.{name-room, mix-turn, mix-ends}
 use Rattle.rule_fingerprints.proofs.fingerprint.name_mixed.Statement.{statement}
 use Rattle.rule_fingerprints.proofs.fingerprint.name_mixed.Tie as tie
 
 abbrev Inv-loop : tie.InvT-loop
-Inv-loop c n a₀ b₀ k₀ a b k =
+Inv-loop t i n a₀ b₀ k₀ a b k =
     (k ≤ n)
-    × (n ≡ min (c .size) 32)
+    × (n ≡ min (callAt (tableOf t) i .size) 32)
     × (a ≤ k * 255)
     × (b ≤ k * 8160)
-    × (mixed a b (drop k (take (c .size) (c .name))) ≡ mixed 0 0 (take (c .size) (c .name)))
+    × (mixed a b (drop k (take (callAt (tableOf t) i .size) (callAt (tableOf t) i .name))) ≡ mixed 0 0 (take (callAt (tableOf t) i .size) (callAt (tableOf t) i .name)))
 
 abbrev μ-loop : tie.MeasureT-loop
-μ-loop c n a₀ b₀ k₀ a b k = n - k
+μ-loop t i n a₀ b₀ k₀ a b k = n - k
 
-long : (z : tie.Start Inv-loop μ-loop) → length (z .args .t1 .name) ≡ 32
-long z = search needs
+call-head-requires : tie.Need-call-head-requires Inv-loop μ-loop
+call-head-requires c κs = search needs
 
 name-size-requires : tie.Need-name-size-requires Inv-loop μ-loop
 name-size-requires c κs = search needs
 
 loop-holds : tie.Need-loop-holds Inv-loop μ-loop
-loop-holds c = search needs
+loop-holds c = (omega arith, c .name-size .ensures ∙ ap (λ (h : CallHead). min (h .size) 32) (c .before .call-head .ensures), omega arith, omega arith, refl)
 
-element-copy-out-to-usize : tie.Need-element-copy-out-to-usize Inv-loop μ-loop
-element-copy-out-to-usize c = search needs
+name-byte-requires : tie.Need-name-byte-requires Inv-loop μ-loop
+name-byte-requires c κs = search needs
 
 to-usize-requires : tie.Need-to-usize-requires Inv-loop μ-loop
 to-usize-requires c κs = search needs
@@ -50,9 +53,15 @@ loop-less c = search needs
 loop-again : tie.Need-loop-again Inv-loop μ-loop
 loop-again c =
     let l = c .before .before .before in
-    let z = l .before .before in
-    let i = l .loop .inv in
-    (omega arith, i .1, omega arith, omega arith, sym (mix-turn _ (z .args .t1 .size) (long z) (l .loop .k) _ _ _ (omega arith) (c .to-usize .ensures .0)) ∙ i .4)
+    let z = l .before .before .before in
+    let x = callAt (tableOf (z .args .t .now)) (z .args .i) in
+    let i = l .loop .inv in (
+      omega arith,
+      i .1,
+      omega (arith, c .to-usize .ensures .1),
+      omega (arith, c .to-usize .ensures .1),
+      sym (mix-turn (x .name) (x .size) (name-room (z .args .t .now) (z .args .i) (z .pre)) (l .loop .k) _ _ _ (omega arith) (c .to-usize .ensures .0 ∙ c .before .name-byte .ensures)) ∙ i .4,
+    )
 
 mul-result : tie.Need-mul-result Inv-loop μ-loop
 mul-result c = search needs
@@ -63,9 +72,10 @@ add-result c = search needs
 returns : tie.Need-returns Inv-loop μ-loop
 returns c =
     let l = c .before in
-    let z = l .before .before in
+    let z = l .before .before .before in
+    let x = callAt (tableOf (z .args .t .now)) (z .args .i) in
     let i = l .loop .inv in
-    (sym (mix-ends _ (z .args .t1 .size) (long z) (l .loop .k) _ _ (omega arith)) ∙ i .4, omega arith)
+    (sym (mix-ends (x .name) (x .size) (name-room (z .args .t .now) (z .args .i) (z .pre)) (l .loop .k) _ _ (omega arith)) ∙ i .4, omega arith)
 
 pub name-mixed-spec : {M : Type 1} → statement M
 name-mixed-spec =
@@ -73,9 +83,10 @@ name-mixed-spec =
     (tie.spec
     Inv-loop
     μ-loop
+    call-head-requires
     name-size-requires
     loop-holds
-    element-copy-out-to-usize
+    name-byte-requires
     to-usize-requires
     add-a
     add-b

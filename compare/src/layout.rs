@@ -1,0 +1,243 @@
+//! The table by its words, numbered as the papers number them: which field each word is, and how a table is lent.
+//!
+//! A head of 6 words, then 8 customers of 23 from word 6, then 64 calls of 32 from word 190.
+
+pub use second::table::{Call, Customer, Place, Table};
+use std::mem::{align_of, offset_of, size_of};
+
+/// Words of a table.
+pub const WORDS: usize = 2238;
+
+pub type Words = [u32; WORDS];
+
+const CUSTOMERS: usize = 6;
+const CUSTOMER: usize = 23;
+const CALLS: usize = 190;
+const CALL: usize = 32;
+
+// The header's own static assertions.
+const _: () = assert!(size_of::<Table>() == 4 * WORDS && align_of::<Table>() == 4);
+const _: () = assert!(size_of::<Customer>() == 4 * CUSTOMER && size_of::<Call>() == 4 * CALL);
+const _: () = assert!(size_of::<Place>() == 16);
+const _: () = assert!(offset_of!(Place, taken) == 0 && offset_of!(Place, tunnel) == 4);
+const _: () = assert!(offset_of!(Place, extended) == 8 && offset_of!(Place, lsp) == 12);
+const _: () = assert!(offset_of!(Call, endpoint) == 0 && offset_of!(Call, sender) == 4);
+const _: () = assert!(offset_of!(Call, refreshed) == 8 && offset_of!(Call, epoch) == 12);
+const _: () = assert!(offset_of!(Call, identifier) == 16 && offset_of!(Call, id) == 20);
+const _: () = assert!(offset_of!(Call, made) == 24 && offset_of!(Call, size) == 28);
+const _: () = assert!(offset_of!(Call, name) == 32 && offset_of!(Call, places) == 64);
+const _: () = assert!(offset_of!(Customer, address) == 0 && offset_of!(Customer, guarantee) == 4);
+const _: () = assert!(offset_of!(Customer, limit) == 8 && offset_of!(Customer, endpoints) == 12);
+const _: () = assert!(offset_of!(Customer, places) == 28);
+const _: () = assert!(offset_of!(Table, address) == 0 && offset_of!(Table, epoch) == 4);
+const _: () = assert!(offset_of!(Table, next) == 8 && offset_of!(Table, listed) == 12);
+const _: () = assert!(offset_of!(Table, occupied) == 16 && offset_of!(Table, customers) == 4 * CUSTOMERS);
+const _: () = assert!(offset_of!(Table, calls) == 4 * CALLS);
+
+/// Which field a word is. Numbers of customers, slots and places are from 0.
+#[derive(Clone, Copy, PartialEq, Eq, Debug)]
+pub enum Field {
+    Address,
+    Epoch,
+    Next,
+    Listed,
+    Occupied(usize),
+    Customer(usize, OfCustomer),
+    Call(usize, OfCall),
+}
+
+#[derive(Clone, Copy, PartialEq, Eq, Debug)]
+pub enum OfCustomer {
+    Address,
+    Guarantee,
+    Limit,
+    EndPoint(usize),
+    Place(usize, OfPlace),
+}
+
+#[derive(Clone, Copy, PartialEq, Eq, Debug)]
+pub enum OfCall {
+    EndPoint,
+    Sender,
+    Refreshed,
+    Epoch,
+    Identifier,
+    Id,
+    Made,
+    Size,
+    /// Four bytes of the name.
+    Name(usize),
+    Place(usize, OfPlace),
+}
+
+#[derive(Clone, Copy, PartialEq, Eq, Debug)]
+pub enum OfPlace {
+    Taken,
+    Tunnel,
+    Extended,
+    Lsp,
+}
+
+/// The field of word `word`.
+pub fn field(word: usize) -> Field {
+    match word {
+        0 => Field::Address,
+        1 => Field::Epoch,
+        2 => Field::Next,
+        3 => Field::Listed,
+        4 | 5 => Field::Occupied(word - 4),
+        CUSTOMERS..CALLS => {
+            let at = word - CUSTOMERS;
+            Field::Customer(at / CUSTOMER, of_customer(at % CUSTOMER))
+        }
+        _ => {
+            let at = word - CALLS;
+            Field::Call(at / CALL, of_call(at % CALL))
+        }
+    }
+}
+
+fn of_customer(at: usize) -> OfCustomer {
+    match at {
+        0 => OfCustomer::Address,
+        1 => OfCustomer::Guarantee,
+        2 => OfCustomer::Limit,
+        3..7 => OfCustomer::EndPoint(at - 3),
+        _ => OfCustomer::Place((at - 7) / 4, of_place((at - 7) % 4)),
+    }
+}
+
+fn of_call(at: usize) -> OfCall {
+    match at {
+        0 => OfCall::EndPoint,
+        1 => OfCall::Sender,
+        2 => OfCall::Refreshed,
+        3 => OfCall::Epoch,
+        4 => OfCall::Identifier,
+        5 => OfCall::Id,
+        6 => OfCall::Made,
+        7 => OfCall::Size,
+        8..16 => OfCall::Name(at - 8),
+        _ => OfCall::Place((at - 16) / 4, of_place(at % 4)),
+    }
+}
+
+fn of_place(at: usize) -> OfPlace {
+    match at {
+        0 => OfPlace::Taken,
+        1 => OfPlace::Tunnel,
+        2 => OfPlace::Extended,
+        _ => OfPlace::Lsp,
+    }
+}
+
+/// The table's words.
+pub fn words(table: &Table) -> &Words {
+    // SAFETY: a table is its words: size and alignment are those above, and all of its bytes are values.
+    unsafe { &*(table as *const Table).cast::<Words>() }
+}
+
+pub fn words_mut(table: &mut Table) -> &mut Words {
+    // SAFETY: as above, and any words are a table.
+    unsafe { &mut *(table as *mut Table).cast::<Words>() }
+}
+
+/// A table as it is lent: no better aligned than it has to be, with words before and behind it that stay.
+#[repr(C, align(16))]
+pub struct Lent {
+    before: [u32; 9],
+    pub table: Table,
+    behind: [u32; 9],
+}
+
+const _: () = assert!(offset_of!(Lent, table) % 16 == 4);
+
+const GUARD: u32 = 0xc0ff_ee11;
+
+impl Lent {
+    pub fn new(table: &Table) -> Lent {
+        Lent {
+            before: [GUARD; 9],
+            table: *table,
+            behind: [GUARD; 9],
+        }
+    }
+
+    /// Nothing was written before or behind the table.
+    pub fn check(&self) -> Result<(), String> {
+        match [self.before, self.behind] == [[GUARD; 9]; 2] {
+            true => Ok(()),
+            false => Err("the first wrote before or behind the table".into()),
+        }
+    }
+}
+
+#[cfg(test)]
+mod tests {
+    use super::*;
+    use crate::tables::EMPTY;
+
+    /// Each field of the struct is at the word that has its name.
+    #[test]
+    fn each_word_is_its_field() {
+        for word in 0..WORDS {
+            let mut table = EMPTY;
+            words_mut(&mut table)[word] = 0x0403_0201;
+            let place = |place: &Place, of| match of {
+                OfPlace::Taken => place.taken,
+                OfPlace::Tunnel => place.tunnel,
+                OfPlace::Extended => place.extended,
+                OfPlace::Lsp => place.lsp,
+            };
+            let found = match field(word) {
+                Field::Address => table.address,
+                Field::Epoch => table.epoch,
+                Field::Next => table.next,
+                Field::Listed => table.listed,
+                Field::Occupied(half) => table.occupied[half],
+                Field::Customer(customer, of) => {
+                    let customer = &table.customers[customer];
+                    match of {
+                        OfCustomer::Address => customer.address,
+                        OfCustomer::Guarantee => customer.guarantee,
+                        OfCustomer::Limit => customer.limit,
+                        OfCustomer::EndPoint(n) => customer.endpoints[n],
+                        OfCustomer::Place(n, of) => place(&customer.places[n], of),
+                    }
+                }
+                Field::Call(slot, of) => {
+                    let call = &table.calls[slot];
+                    match of {
+                        OfCall::EndPoint => call.endpoint,
+                        OfCall::Sender => call.sender,
+                        OfCall::Refreshed => call.refreshed,
+                        OfCall::Epoch => call.epoch,
+                        OfCall::Identifier => call.identifier,
+                        OfCall::Id => call.id,
+                        OfCall::Made => call.made,
+                        OfCall::Size => call.size,
+                        OfCall::Place(n, of) => place(&call.places[n], of),
+                        // Low byte first.
+                        OfCall::Name(n) => {
+                            assert_eq!(call.name[4 * n..][..4], [1, 2, 3, 4]);
+                            0x0403_0201
+                        }
+                    }
+                }
+            };
+            assert_eq!(found, 0x0403_0201, "word {word}");
+            assert_eq!(words(&table)[word], 0x0403_0201);
+        }
+    }
+
+    #[test]
+    fn numbers_of_the_papers() {
+        assert_eq!(field(6 + 23 * 7 + 3), Field::Customer(7, OfCustomer::EndPoint(0)));
+        assert_eq!(
+            field(6 + 23 * 7 + 22),
+            Field::Customer(7, OfCustomer::Place(3, OfPlace::Lsp))
+        );
+        assert_eq!(field(190), Field::Call(0, OfCall::EndPoint));
+        assert_eq!(field(WORDS - 1), Field::Call(63, OfCall::Place(3, OfPlace::Lsp)));
+    }
+}

@@ -1,0 +1,270 @@
+//! Values outside their fields, for every word of a table: what a word is set to, and which rule that breaks for sure.
+
+use crate::layout::{field, words, words_mut, Field, OfCall, OfCustomer, OfPlace, WORDS};
+use crate::random::Random;
+use crate::tables::{is_taken, is_used};
+use second::table::{Place, Table};
+
+/// What every word is set to, besides each of its bits turned over.
+pub const VALUES: [u32; 24] = [
+    0,
+    1,
+    2,
+    7,
+    8,
+    9,
+    32,
+    33,
+    40,
+    64,
+    65,
+    255,
+    256,
+    257,
+    65_535,
+    65_536,
+    65_537,
+    70_000,
+    (1 << 24) - 1,
+    1 << 24,
+    (1 << 31) - 1,
+    1 << 31,
+    u32::MAX - 1,
+    u32::MAX,
+];
+
+/// Values outside a field: answer 1, and the table as it was. One each for the roster's and the node's numbers, for a
+/// used call, for a taken and a free place of a call and of a customer, and for what is unused.
+pub const REFUSED: &[&str] = &[
+    "word: own address of the empty table",
+    "word: own epoch of the empty table",
+    "word: own epoch above 24 bits",
+    "word: listed above 8",
+    "word: occupied bits",
+    "word: guarantee above the limit",
+    "word: limit 0 or above 64",
+    "word: call's last refresh",
+    "word: call's request epoch",
+    "word: call's request identifier",
+    "word: call's made mark",
+    "word: call's short ID 0 or above 65,535",
+    "word: call's name size 0 or above 32",
+    "word: call's name past its size",
+    "word: call's place, taken above 1",
+    "word: call's place, taken 0 over a connection",
+    "word: call's place, Tunnel ID above 65,535",
+    "word: call's place, LSP ID above 65,535",
+    "word: call's free place not zeros",
+    "word: customer's place, taken above 1",
+    "word: customer's place, taken 0 over a connection",
+    "word: customer's place, Tunnel ID above 65,535",
+    "word: customer's place, LSP ID above 65,535",
+    "word: customer's free place not zeros",
+    "word: customer's free place, end point",
+    "word: unused record not zeros",
+    "word: free slot not zeros",
+];
+
+/// Values that no rule looks at: never answer 1.
+pub const KEPT: &[&str] = &[
+    "word: any own address",
+    "word: any own epoch of 24 bits",
+    "word: any next identifier",
+];
+
+/// What is due to a table with one word changed.
+#[derive(Clone, Copy, PartialEq, Eq, Debug)]
+pub enum Due {
+    /// Answer 1, for this reason.
+    Refused(&'static str),
+    /// Another answer.
+    Kept(&'static str),
+    /// The rest of the table decides.
+    Open,
+}
+
+use Due::{Kept, Open, Refused};
+
+/// A table that breaks no rule, with one word changed.
+pub struct Changed {
+    pub table: Table,
+    pub word: usize,
+    pub due: Due,
+}
+
+/// The table with `word` set to `value`; none where it had that value.
+pub fn change(table: &Table, word: usize, value: u32) -> Option<Changed> {
+    if words(table)[word] == value {
+        return None;
+    }
+    let mut changed = *table;
+    words_mut(&mut changed)[word] = value;
+    let due = due(table, word, value);
+    Some(Changed {
+        table: changed,
+        word,
+        due,
+    })
+}
+
+/// Every word with every value and with each bit turned over.
+pub fn every_word(table: &Table) -> impl Iterator<Item = Changed> + '_ {
+    (0..WORDS).flat_map(move |word| {
+        let old = words(table)[word];
+        let flips = (0..32).map(move |bit| old ^ 1 << bit);
+        let values = VALUES.into_iter().chain(flips);
+        values.filter_map(move |value| change(table, word, value))
+    })
+}
+
+/// Some word with some value. Words of listed customers and of used slots come as often as all others.
+pub fn some_word(table: &Table, random: &mut Random) -> Option<Changed> {
+    let mut word = random.below(WORDS);
+    if random.chance(1, 2) {
+        let used: Vec<usize> = (0..64).filter(|&slot| is_used(table, slot)).collect();
+        word = match random.below(4) {
+            0 => random.below(6),
+            1 if table.listed > 0 => 6 + random.below(23 * table.listed as usize),
+            _ if !used.is_empty() => 190 + 32 * random.pick(&used) + random.below(32),
+            _ => word,
+        };
+    }
+    let old = words(table)[word];
+    let flipped = old ^ 1 << random.below(32);
+    let (beside, any) = (old.wrapping_add(1), random.word());
+    let listed = *random.pick(&VALUES);
+    let values = [0, listed, listed, flipped, flipped, beside, any];
+    change(table, word, *random.pick(&values))
+}
+
+fn when(broken: bool, reason: &'static str) -> Due {
+    if broken {
+        Refused(reason)
+    } else {
+        Open
+    }
+}
+
+/// `value` is not the one that the word has, and the table breaks no rule.
+fn due(table: &Table, word: usize, value: u32) -> Due {
+    let empty = table.listed == 0;
+    match field(word) {
+        Field::Address if empty => Refused("word: own address of the empty table"),
+        Field::Epoch if empty => Refused("word: own epoch of the empty table"),
+        Field::Epoch if value >= 1 << 24 => Refused("word: own epoch above 24 bits"),
+        Field::Address => Kept("word: any own address"),
+        Field::Epoch => Kept("word: any own epoch of 24 bits"),
+        Field::Next => Kept("word: any next identifier"),
+        Field::Listed => when(value > 8, "word: listed above 8"),
+        Field::Occupied(_) => Refused("word: occupied bits"),
+        Field::Customer(customer, _) if customer >= table.listed as usize => Refused("word: unused record not zeros"),
+        Field::Customer(customer, of) => due_of_customer(table, customer, of, value),
+        Field::Call(slot, _) if !is_used(table, slot) => Refused("word: free slot not zeros"),
+        Field::Call(slot, of) => due_of_call(table, slot, of, value),
+    }
+}
+
+fn due_of_customer(table: &Table, customer: usize, of: OfCustomer, value: u32) -> Due {
+    let customer = &table.customers[customer];
+    match of {
+        OfCustomer::Address => Open,
+        OfCustomer::Guarantee => when(value > customer.limit, "word: guarantee above the limit"),
+        OfCustomer::Limit => when(value == 0 || value > 64, "word: limit 0 or above 64"),
+        OfCustomer::EndPoint(n) => when(!is_taken(&customer.places[n]), "word: customer's free place, end point"),
+        OfCustomer::Place(n, of) => {
+            let reasons = [
+                "word: customer's place, taken above 1",
+                "word: customer's place, taken 0 over a connection",
+                "word: customer's place, Tunnel ID above 65,535",
+                "word: customer's place, LSP ID above 65,535",
+                "word: customer's free place not zeros",
+            ];
+            due_of_place(&customer.places[n], customer.endpoints[n], of, value, reasons)
+        }
+    }
+}
+
+fn due_of_call(table: &Table, slot: usize, of: OfCall, value: u32) -> Due {
+    let call = &table.calls[slot];
+    match of {
+        OfCall::EndPoint | OfCall::Sender => Open,
+        // They are zero, and the value is another.
+        OfCall::Refreshed => Refused("word: call's last refresh"),
+        OfCall::Epoch => Refused("word: call's request epoch"),
+        OfCall::Identifier => Refused("word: call's request identifier"),
+        OfCall::Made => Refused("word: call's made mark"),
+        OfCall::Id => when(value == 0 || value > 65_535, "word: call's short ID 0 or above 65,535"),
+        OfCall::Size => when(value == 0 || value > 32, "word: call's name size 0 or above 32"),
+        OfCall::Name(n) => {
+            let past = |&at: &usize| 4 * n + at >= call.size as usize && value.to_le_bytes()[at] != 0;
+            when((0..4).any(|at| past(&at)), "word: call's name past its size")
+        }
+        OfCall::Place(n, of) => {
+            let reasons = [
+                "word: call's place, taken above 1",
+                "word: call's place, taken 0 over a connection",
+                "word: call's place, Tunnel ID above 65,535",
+                "word: call's place, LSP ID above 65,535",
+                "word: call's free place not zeros",
+            ];
+            due_of_place(&call.places[n], 0, of, value, reasons)
+        }
+    }
+}
+
+fn due_of_place(place: &Place, endpoint: u32, of: OfPlace, value: u32, reasons: [&'static str; 5]) -> Due {
+    let left = place.tunnel | place.extended | place.lsp | endpoint;
+    match of {
+        OfPlace::Taken if value > 1 => Refused(reasons[0]),
+        OfPlace::Taken => when(value == 0 && left != 0, reasons[1]),
+        _ if !is_taken(place) => Refused(reasons[4]),
+        OfPlace::Tunnel => when(value > 65_535, reasons[2]),
+        OfPlace::Lsp => when(value > 65_535, reasons[3]),
+        OfPlace::Extended => Open,
+    }
+}
+
+#[cfg(test)]
+mod tests {
+    use super::*;
+    use crate::tables::EMPTY;
+
+    #[test]
+    fn of_the_empty_table() {
+        for changed in every_word(&EMPTY) {
+            match changed.word {
+                2 => assert_eq!(changed.due, Kept("word: any next identifier")),
+                // None of the records listed would have a limit.
+                3 => assert_ne!(changed.due, Kept("word: any own address")),
+                _ => assert!(matches!(changed.due, Refused(_)), "word {}", changed.word),
+            }
+        }
+    }
+
+    #[test]
+    fn every_reason_is_announced() {
+        let mut table = EMPTY;
+        table.listed = 7;
+        table.customers[0].limit = 64;
+        table.customers[0].places[1] = Place {
+            taken: 1,
+            tunnel: 1,
+            extended: 1,
+            lsp: 1,
+        };
+        table.calls[0].size = 5;
+        table.calls[0].places[2] = table.customers[0].places[1];
+        table.occupied[0] = 1;
+        let mut seen: Vec<&str> = Vec::new();
+        for changed in every_word(&table).chain(every_word(&EMPTY)) {
+            if let Refused(reason) | Kept(reason) = changed.due {
+                seen.push(reason);
+            }
+        }
+        seen.sort_unstable();
+        seen.dedup();
+        let mut due: Vec<&str> = REFUSED.iter().chain(KEPT).copied().collect();
+        due.sort_unstable();
+        assert_eq!(seen, due);
+    }
+}

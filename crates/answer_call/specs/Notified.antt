@@ -1,0 +1,22 @@
+-- What a Notify with an answer leaves: the answer, the reply's length and bytes, and the next own identifier taken.
+use Prim.Native.Nat.{ℕ}
+use mathlib.Core.Path.{_≡_}
+use mathlib.Core.List.{List}
+use lib.ListN.{length}
+use Rattle.numbers.specs.Buffer.{atFront}
+use Rattle.messages.specs.declared.message.CallRequest.{CallRequest}
+use Rattle.replies.specs.Messages.{notifyBytes}
+use Rattle.table.specs.Table.{Table}
+use Rattle.answers.specs.declared.answer.Answer.{Answer}
+use Rattle.spec_changes.specs.Calls.{identifierTaken}
+use Rattle.spec_calls.specs.Handling.{ownId, notifyFor}
+use Rattle.outcomes.specs.declared.outcome.Outcome.{Outcome}
+
+abbrev pub notifyOf : Table → List ℕ → CallRequest → ℕ → Answer → List ℕ
+notifyOf t s q status a = notifyBytes s (notifyFor (t .address) (ownId t) q status a)
+
+pub record Notified (t : Table) (s : List ℕ) (q : CallRequest) (status : ℕ) (a : Answer) (buffer : List ℕ) (r : Outcome) (after : Table) (exit : List ℕ) : Type 0 where
+  pub answer : r .answer ≡ a
+  pub length : r .length ≡ length (notifyOf t s q status a)
+  pub table : after ≡ identifierTaken t
+  pub reply : exit ≡ atFront (notifyOf t s q status a) buffer

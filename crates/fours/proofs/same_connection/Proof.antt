@@ -1,0 +1,45 @@
+-- `same_connection` meets its contract, by what `sameLsp` says.
+use borrow.Author.Needs.{needs}
+use Rattle.table_words.specs.Fours.{fourAtWord}
+use Rattle.fours.proofs.Places.{tunnels-apart, same-by-words}
+use Rattle.fours.proofs.same_connection.Statement.{statement}
+use Rattle.fours.proofs.same_connection.Tie as tie
+
+place-words-requires : tie.Need-place-words-requires
+place-words-requires c κs = search needs
+
+place-words-requires-2 : tie.Need-place-words-requires-2
+place-words-requires-2 c κs = search needs
+
+returns : tie.Need-returns
+returns c =
+    let p = c .before .before .before in
+    let a = p .before .before .args in
+    let w = a .t .now in
+    tunnels-apart (fourAtWord w (a .f)) (fourAtWord w (a .g)) (a .i) (a .j) _ _ (p .before .place-words .ensures) (p .place-words2 .ensures) (c .if1 .taken)
+
+endpoint-at-requires : tie.Need-endpoint-at-requires
+endpoint-at-requires c κs = search needs
+
+endpoint-at-requires-2 : tie.Need-endpoint-at-requires-2
+endpoint-at-requires-2 c κs = search needs
+
+returns-2 : tie.Need-returns-2
+returns-2 c =
+    let d = c .before .before .before .before .before .before in
+    let s = d .before .before in
+    let p = s .before .before .before in
+    let a = p .before .before .args in
+    let w = a .t .now in
+    same-by-words (fourAtWord w (a .f)) (fourAtWord w (a .g)) (a .i) (a .j) _ _ (p .before .place-words .ensures) (p .place-words2 .ensures) _ _ (d .before .endpoint-at .ensures) (d .endpoint-at2 .ensures) (s .if1 .left)
+
+pub same-connection-spec : {M : Type 1} → statement M
+same-connection-spec =
+    tie.close
+    (tie.spec
+    place-words-requires
+    place-words-requires-2
+    returns
+    endpoint-at-requires
+    endpoint-at-requires-2
+    returns-2)

@@ -1,0 +1,197 @@
+// Four places for connections, a call's or a customer's of Call ID 0, by where they stand. Here and below, a four lies
+// within the table: `call_four` and `customer_four` promise that.
+ghost use mathlib.Core.Path.{_≡_};
+ghost use mathlib.Core.Bool.{true, cond, not, _&&_};
+ghost use Prim.Native.Nat.{_+_, _≤_, _<_};
+ghost use Rattle.lists.specs.Count.{bit, count, has, noTwo};
+ghost use Rattle.lists.specs.Below.{everyBelow, firstBelow};
+ghost use Rattle.lists.specs.Pairs.{meet};
+ghost use Rattle.table.specs.Lists.{placeAt, isTaken, connectionAt, heldIn};
+ghost use Rattle.table.specs.Rules.{sameLsp, placeValid, fourValid};
+ghost use Rattle.table_words.specs.Fours.{fourAtWord, placeOfWords, Inside};
+ghost use Rattle.fours.specs.Apart.{apart};
+use lists::one_if;
+use table::layout::Words;
+use table_words::fours::FourPlace;
+use table_words::fours::PlaceWords;
+use table_words::fours::endpoint_at;
+use table_words::fours::place_words;
+
+fn is_taken(t: &Words, f: FourPlace, j: usize) -> bool
+    requires { ⌜ Inside f × (j < 4) ⌝ }
+    ensures { λ r. ⌜ r ≡ isTaken (placeAt (fourAtWord (now (t .entry)) f) j) ⌝ }
+{
+    let p = place_words(t, f, j);
+    p.taken == 1
+}
+
+// How many of four tests pass.
+fn of_four(a: bool, b: bool, c: bool, d: bool) -> usize
+    ensures { λ r. ⌜ (r ≡ bit a + bit b + bit c + bit d) × (r ≤ 4) ⌝ }
+{
+    one_if(a) + one_if(b) + one_if(c) + one_if(d)
+}
+
+// The first of four tests that passes, 0 where none does.
+fn first_of_four(a: bool, b: bool, c: bool, d: bool) -> usize
+    ensures { λ r. ⌜ (r ≡ cond a 0 (cond b 1 (cond c 2 (cond d 3 0)))) × (r < 4) ⌝ }
+{
+    if a {
+        return 0;
+    }
+    if b {
+        return 1;
+    }
+    if c {
+        return 2;
+    }
+    if d {
+        return 3;
+    }
+    0
+}
+
+// How many places are taken.
+pub fn taken_in(t: &Words, f: FourPlace) -> usize
+    requires { ⌜ Inside f ⌝ }
+    ensures { λ r. ⌜ (r ≡ count (λ x. true) (heldIn (fourAtWord (now (t .entry)) f))) × (r ≤ 4) ⌝ }
+{
+    of_four(
+        is_taken(t, f, 0),
+        is_taken(t, f, 1),
+        is_taken(t, f, 2),
+        is_taken(t, f, 3),
+    )
+}
+
+pub fn has_taken(t: &Words, f: FourPlace) -> bool
+    requires { ⌜ Inside f ⌝ }
+    ensures { λ r. ⌜ r ≡ has (λ x. true) (heldIn (fourAtWord (now (t .entry)) f)) ⌝ }
+{
+    0 < taken_in(t, f)
+}
+
+// The lowest free place, 0 where none is.
+pub fn free_place(t: &Words, f: FourPlace) -> usize
+    requires { ⌜ Inside f ⌝ }
+    ensures { λ r. ⌜ (r ≡ firstBelow (λ j. not (isTaken (placeAt (fourAtWord (now (t .entry)) f) j))) 4) × (r < 4) ⌝ }
+{
+    first_of_four(
+        !is_taken(t, f, 0),
+        !is_taken(t, f, 1),
+        !is_taken(t, f, 2),
+        !is_taken(t, f, 3),
+    )
+}
+
+// Two places have the same connection; whether they are taken is another matter. Most differ by the Tunnel ID.
+fn same_connection(t: &Words, f: FourPlace, i: usize, g: FourPlace, j: usize) -> bool
+    requires { ⌜ Inside f × Inside g × (i < 4) × (j < 4) ⌝ }
+    ensures { λ r. ⌜ r ≡ sameLsp (connectionAt (fourAtWord (now (t .entry)) f) i) (connectionAt (fourAtWord (now (t .entry)) g) j) ⌝ }
+{
+    let p = place_words(t, f, i);
+    let q = place_words(t, g, j);
+    if p.tunnel.0 != q.tunnel.0 {
+        return false;
+    }
+    (endpoint_at(t, f, i) == endpoint_at(t, g, j))
+        & (f.sender == g.sender)
+        & (p.extended == q.extended)
+        & (p.lsp.0 == q.lsp.0)
+}
+
+// The connection in a place is one of the other four's.
+fn is_among(t: &Words, f: FourPlace, i: usize, g: FourPlace) -> bool
+    requires { ⌜ Inside f × Inside g × (i < 4) ⌝ }
+    ensures { λ r. ⌜ r ≡ has (sameLsp (connectionAt (fourAtWord (now (t .entry)) f) i)) (heldIn (fourAtWord (now (t .entry)) g)) ⌝ }
+{
+    let mut found = false;
+    let mut j: usize = 0;
+    while j < 4 {
+        found = found | (is_taken(t, g, j) & same_connection(t, f, i, g, j));
+        j += 1;
+    }
+    found
+}
+
+// The same, of a place that may be free: then the other four is not looked at.
+fn is_shared(t: &Words, f: FourPlace, i: usize, g: FourPlace) -> bool
+    requires { ⌜ Inside f × Inside g × (i < 4) ⌝ }
+    ensures { λ r. ⌜ r ≡ (isTaken (placeAt (fourAtWord (now (t .entry)) f) i) && has (sameLsp (connectionAt (fourAtWord (now (t .entry)) f) i)) (heldIn (fourAtWord (now (t .entry)) g))) ⌝ }
+{
+    if is_taken(t, f, i) {
+        return is_among(t, f, i, g);
+    }
+    false
+}
+
+// A connection of the one is also the other's. Fours of two senders have none in common.
+pub fn fours_meet(t: &Words, f: FourPlace, g: FourPlace) -> bool
+    requires { ⌜ Inside f × Inside g ⌝ }
+    ensures { λ r. ⌜ r ≡ meet sameLsp (heldIn (fourAtWord (now (t .entry)) f)) (heldIn (fourAtWord (now (t .entry)) g)) ⌝ }
+{
+    if f.sender != g.sender {
+        return false;
+    }
+    let mut found = false;
+    let mut i: usize = 0;
+    while i < 4 {
+        found = found | is_shared(t, f, i, g);
+        i += 1;
+    }
+    found
+}
+
+// The connection in a place, where it is taken, is that of no earlier place.
+fn apart_from_earlier(t: &Words, f: FourPlace, i: usize) -> bool
+    requires { ⌜ Inside f × (i < 4) ⌝ }
+    ensures { λ r. ⌜ r ≡ everyBelow (λ j. apart (fourAtWord (now (t .entry)) f) i j) i ⌝ }
+{
+    if !is_taken(t, f, i) {
+        return true;
+    }
+    let mut apart = true;
+    let mut j: usize = 0;
+    while j < i {
+        apart = apart & !(is_taken(t, f, j) & same_connection(t, f, j, f, i));
+        j += 1;
+    }
+    apart
+}
+
+// No two connections are alike.
+pub fn four_once(t: &Words, f: FourPlace) -> bool
+    requires { ⌜ Inside f ⌝ }
+    ensures { λ r. ⌜ r ≡ noTwo sameLsp (heldIn (fourAtWord (now (t .entry)) f)) ⌝ }
+{
+    let mut once = true;
+    let mut i: usize = 0;
+    while i < 4 {
+        once = once & apart_from_earlier(t, f, i);
+        i += 1;
+    }
+    once
+}
+
+// Taken, with a Tunnel ID and an LSP ID of sixteen bits, or free and zero.
+fn place_valid(p: PlaceWords) -> bool
+    ensures { λ r. ⌜ r ≡ placeValid (placeOfWords p) ⌝ }
+{
+    if p.taken == 1 {
+        return (p.tunnel.0 < 0x10000) & (p.lsp.0 < 0x10000);
+    }
+    (p.taken == 0) & (p.tunnel.0 == 0) & (p.extended == 0) & (p.lsp.0 == 0)
+}
+
+pub fn four_valid(t: &Words, f: FourPlace) -> bool
+    requires { ⌜ Inside f ⌝ }
+    ensures { λ r. ⌜ r ≡ fourValid (fourAtWord (now (t .entry)) f) ⌝ }
+{
+    let mut valid = true;
+    let mut j: usize = 0;
+    while j < 4 {
+        valid = valid & place_valid(place_words(t, f, j));
+        j += 1;
+    }
+    valid
+}

@@ -1,0 +1,97 @@
+-- What a call, a customer and the table are goes by their words alone.
+-- Assumes nothing.
+use Prim.Native.Nat.{ℕ, _+_, _*_, _≤_, _<_}
+use native.Mathlib.Omega.{arith}
+use mathlib.Core.Path.{_≡_, sym, ap}
+use mathlib.Core.List.{List, [], _∷_}
+use lib.ListN.{getD, set}
+use Rattle.lists.proofs.Below.{below-ext, getD-each, set-each}
+use Rattle.table.specs.Total.{total}
+use Rattle.table.specs.Lists.{callAt, customerAt}
+use Rattle.table.specs.Words.{bytesOf, nameAtWord, placeAtWord, placesAtWord, callAtWord, customerAtWord, customersOf, slotsOf, customerStart, callStart, tableOf}
+
+-- a slot's call, a record's customer and a four's place are those of their words
+pub call-at : (w : List ℕ) (i : ℕ) → i < total → callAt (tableOf w) i ≡ callAtWord w (callStart i)
+call-at w i h = getD-each (λ i. callAtWord w (callStart i)) total i _ h
+
+pub customer-at : (w : List ℕ) (k : ℕ) → k < 8 → customerAt (tableOf w) k ≡ customerAtWord w (customerStart k)
+customer-at w k h = getD-each (λ k. customerAtWord w (customerStart k)) 8 k _ h
+
+pub place-at : (w : List ℕ) (b j : ℕ) → j < 4 → getD (placesAtWord w b) j (placeAtWord [] 0) ≡ placeAtWord w (b + 4 * j)
+place-at w b j h = getD-each (λ j. placeAtWord w (b + 4 * j)) 4 j _ h
+
+pub endpoint-at : (w : List ℕ) (b j : ℕ) → j < 4 → getD (customerAtWord w b .endpoints) j 0 ≡ getD w (b + 3 + j) 0
+endpoint-at w b j h = getD-each (λ j. getD w (b + 3 + j) 0) 4 j 0 h
+
+-- words that are the same, from one place on and from another
+module _ (w v : List ℕ) (b e n : ℕ) (h : (k : ℕ) → k < n → getD w (b + k) 0 ≡ getD v (e + k) 0) where
+  cell : (x y k : ℕ) → x ≡ b + k → y ≡ e + k → k < n → getD w x 0 ≡ getD v y 0
+  cell x y k p q l = rw (p, q) (h k l)
+
+module _ (w v : List ℕ) (b e : ℕ) where
+  pub name-same : ((k : ℕ) → k < 8 → getD w (b + k) 0 ≡ getD v (e + k) 0) → nameAtWord w b ≡ nameAtWord v e
+  name-same h = below-ext _ _ 8 (λ k l. ap bytesOf (h k l))
+
+  pub place-same : ((k : ℕ) → k < 4 → getD w (b + k) 0 ≡ getD v (e + k) 0) → placeAtWord w b ≡ placeAtWord v e
+  place-same h =
+      let f = cell w v b e 4 h in
+      rw (f b e 0 (omega arith) (omega arith) (omega arith), h 1 (omega arith), h 2 (omega arith), h 3 (omega arith))
+
+module _ (w v : List ℕ) (b e : ℕ) where
+  pub places-same : ((k : ℕ) → k < 16 → getD w (b + k) 0 ≡ getD v (e + k) 0) → placesAtWord w b ≡ placesAtWord v e
+  places-same h =
+      let f = cell w v b e 16 h in
+      below-ext _ _ 4 (λ j l. ap (λ x. x ∷ []) (place-same w v (b + 4 * j) (e + 4 * j)
+      (λ k m. f (b + 4 * j + k) (e + 4 * j + k) (4 * j + k) (omega arith) (omega arith) (omega arith))))
+
+module _ (w v : List ℕ) (b e : ℕ) where
+  pub call-same : ((k : ℕ) → k < 32 → getD w (b + k) 0 ≡ getD v (e + k) 0) → callAtWord w b ≡ callAtWord v e
+  call-same h =
+      let f = cell w v b e 32 h in
+      let n : nameAtWord w (b + 8) ≡ nameAtWord v (e + 8) =
+      name-same w v (b + 8) (e + 8) (λ k l. f (b + 8 + k) (e + 8 + k) (8 + k) (omega arith) (omega arith) (omega arith)) in
+      let p : placesAtWord w (b + 16) ≡ placesAtWord v (e + 16) =
+      places-same w v (b + 16) (e + 16) (λ k l. f (b + 16 + k) (e + 16 + k) (16 + k) (omega arith) (omega arith) (omega arith)) in
+      rw (
+        f b e 0 (omega arith) (omega arith) (omega arith),
+        h 1 (omega arith),
+        h 2 (omega arith),
+        h 3 (omega arith),
+        h 4 (omega arith),
+        h 5 (omega arith),
+        h 6 (omega arith),
+        h 7 (omega arith),
+        n,
+        p,
+      )
+
+  pub customer-same : ((k : ℕ) → k < 23 → getD w (b + k) 0 ≡ getD v (e + k) 0) → customerAtWord w b ≡ customerAtWord v e
+  customer-same h =
+      let f = cell w v b e 23 h in
+      let n : customerAtWord w b .endpoints ≡ customerAtWord v e .endpoints =
+      below-ext _ _ 4 (λ j l. ap (λ (x : ℕ). x ∷ []) (f (b + 3 + j) (e + 3 + j) (3 + j) (omega arith) (omega arith) (omega arith))) in
+      let p : placesAtWord w (b + 7) ≡ placesAtWord v (e + 7) =
+      places-same w v (b + 7) (e + 7) (λ k l. f (b + 7 + k) (e + 7 + k) (7 + k) (omega arith) (omega arith) (omega arith)) in
+      rw (f b e 0 (omega arith) (omega arith) (omega arith), h 1 (omega arith), h 2 (omega arith), n, p)
+
+module _ (w v : List ℕ) where
+  pub customers-same : ((j : ℕ) → 6 ≤ j → j < 190 → getD v j 0 ≡ getD w j 0) → customersOf v ≡ customersOf w
+  customers-same h =
+      below-ext _ _ 8 (λ k l. ap (λ x. x ∷ []) (customer-same v w (customerStart k) (customerStart k) (λ j m. h (customerStart k + j) (omega arith) (omega arith))))
+
+  pub calls-same : ((j : ℕ) → 190 ≤ j → getD v j 0 ≡ getD w j 0) → slotsOf v ≡ slotsOf w
+  calls-same h =
+      below-ext _ _ total (λ i l. ap (λ x. x ∷ []) (call-same v w (callStart i) (callStart i) (λ j m. h (callStart i + j) (omega arith))))
+
+  -- one slot's words changed, one customer's
+  pub calls-set : (i : ℕ) → i < total → ((j : ℕ) → (callStart i ≤ j → j < callStart i + 32 → ⊥) → getD v j 0 ≡ getD w j 0)
+      → slotsOf v ≡ set (slotsOf w) i (callAtWord v (callStart i))
+  calls-set i l h =
+      sym (set-each (λ i. callAtWord w (callStart i)) (λ i. callAtWord v (callStart i)) total i l
+      (λ j n. call-same w v (callStart j) (callStart j) (λ k m. sym (h (callStart j + k) (λ p q. n (omega arith))))))
+
+  pub customers-set : (i : ℕ) → i < 8 → ((j : ℕ) → (customerStart i ≤ j → j < customerStart i + 23 → ⊥) → getD v j 0 ≡ getD w j 0)
+      → customersOf v ≡ set (customersOf w) i (customerAtWord v (customerStart i))
+  customers-set i l h =
+      sym (set-each (λ i. customerAtWord w (customerStart i)) (λ i. customerAtWord v (customerStart i)) 8 i l
+      (λ j n. customer-same w v (customerStart j) (customerStart j) (λ k m. sym (h (customerStart j + k) (λ p q. n (omega arith))))))

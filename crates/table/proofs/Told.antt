@@ -1,0 +1,124 @@
+-- Words and table are one to one: tables that are the same have the same words.
+-- Assumes nothing.
+use Prim.Native.Nat.{ℕ, zero, suc, _+_, _*_, _-_, _/_, _%_, _≤_, _<_}
+use native.Mathlib.Omega.{arith}
+use mathlib.Core.Path.{_≡_, refl, sym, ap, _∙_}
+use mathlib.Core.List.{List, [], _∷_}
+use mathlib.Core.Bool.{Bool, true, false}
+use lib.Dec.{ltb}
+use lib.ListN.{length, getD}
+use lib.Seq.{ext-getD}
+use borrow.Author.Tests.{ltb-true, ltb-false}
+use Rattle.lists.specs.Below.{below}
+use Rattle.table.specs.Total.{total}
+use Rattle.table.specs.Words.{placeAtWord, placesAtWord, callAtWord, customerAtWord, customerStart, callStart, tableOf, wordCount}
+use Rattle.table.proofs.Names.{cells-told, name-told}
+
+-- one of the first numbers
+pub four : (P : ℕ → Type 0) → P 0 → P 1 → P 2 → P 3 → (k : ℕ) → k < 4 → P k
+four P a b c d zero h = a
+four P a b c d (suc zero) h = b
+four P a b c d (suc (suc zero)) h = c
+four P a b c d (suc (suc (suc zero))) h = d
+four P a b c d (suc (suc (suc (suc k)))) h = absurd (omega arith)
+
+-- below a bound, or so many past it
+split {ℓ} : {P : ℕ → Type ℓ} (n : ℕ) → ((k : ℕ) → k < n → P k) → ((k : ℕ) → n ≤ k → P k) → (k : ℕ) → P k
+split {P = P} n f g k = go (ltb k n) refl
+  where
+    go : (s : Bool) → ltb k n ≡ s → P k
+    go true e = f k (ltb-true k n e)
+    go false e = g k (ltb-false k n e)
+
+-- one of n cells of one size, and a word of it
+cell : (f g : ℕ → ℕ) (n : ℕ) → below (λ j. f j ∷ []) n ≡ below (λ j. g j ∷ []) n → (j : ℕ) → j < n → f j ≡ g j
+cell f g n e j l = ap (λ l. getD l 0 0) (cells-told (λ j. f j ∷ []) (λ j. g j ∷ []) 1 (λ i. refl) (λ i. refl) n e j l)
+
+module _ (w v : List ℕ) where
+  abbrev Same : ℕ → Type 0
+  Same j = getD w j 0 ≡ getD v j 0
+
+  moved : (i j : ℕ) → i ≡ j → Same i → Same j
+  moved i j e h = rw e at h
+
+  module _ (b : ℕ) where
+    place-told : placeAtWord w b ≡ placeAtWord v b → (k : ℕ) → k < 4 → Same (b + k)
+    place-told e =
+        four (λ k. Same (b + k))
+        (moved b (b + 0) (omega arith) (ap (λ p. p .taken) e))
+        (ap (λ p. p .tunnel) e)
+        (ap (λ p. p .extended) e)
+        (ap (λ p. p .lsp) e)
+
+  module _ (b : ℕ) where
+    places-told : placesAtWord w b ≡ placesAtWord v b → (k : ℕ) → k < 16 → Same (b + k)
+    places-told e k h =
+        let j = k / 4 in
+        let p : placeAtWord w (b + 4 * j) ≡ placeAtWord v (b + 4 * j) =
+        ap (λ l. getD l 0 (placeAtWord w 0))
+        (cells-told (λ j. placeAtWord w (b + 4 * j) ∷ []) (λ j. placeAtWord v (b + 4 * j) ∷ []) 1 (λ i. refl) (λ i. refl) 4 e j (omega arith)) in
+        moved (b + 4 * j + k % 4) (b + k) (omega arith) (place-told (b + 4 * j) p (k % 4) (omega arith))
+
+  module _ (b : ℕ) where
+    pub call-told : callAtWord w b ≡ callAtWord v b → (k : ℕ) → k < 32 → Same (b + k)
+    call-told e k h =
+        split {P = λ k. k < 32 → Same (b + k)} 4
+        (λ k l h. four (λ k. Same (b + k))
+        (moved b (b + 0) (omega arith) (ap (λ c. c .endpoint) e))
+        (ap (λ c. c .sender) e)
+        (ap (λ c. c .refreshed) e)
+        (ap (λ c. c .epoch) e) k l)
+        (λ k g. split {P = λ k. 4 ≤ k → k < 32 → Same (b + k)} 8
+        (λ k l g h. moved (b + (4 + (k - 4))) (b + k) (omega arith) (four (λ k. Same (b + (4 + k)))
+        (ap (λ c. c .identifier) e)
+        (ap (λ c. c .id) e)
+        (ap (λ c. c .made) e)
+        (ap (λ c. c .size) e) (k - 4) (omega arith)))
+        (λ k m g. split {P = λ k. 8 ≤ k → k < 32 → Same (b + k)} 16
+        (λ k l m h. moved (b + 8 + (k - 8)) (b + k) (omega arith) (name-told w v (b + 8) (b + 8) (ap (λ c. c .name) e) (k - 8) (omega arith)))
+        (λ k n m h. moved (b + 16 + (k - 16)) (b + k) (omega arith) (places-told (b + 16) (ap (λ c. c .places) e) (k - 16) (omega arith))) k m) k g) k h
+
+    pub customer-told : customerAtWord w b ≡ customerAtWord v b → (k : ℕ) → k < 23 → Same (b + k)
+    customer-told e k h =
+        split {P = λ k. k < 23 → Same (b + k)} 3
+        (λ k l h. four (λ k. k < 3 → Same (b + k))
+        (λ z. moved b (b + 0) (omega arith) (ap (λ c. c .address) e))
+        (λ z. ap (λ c. c .guarantee) e)
+        (λ z. ap (λ c. c .limit) e)
+        (λ z. absurd (omega arith)) k (omega arith) l)
+        (λ k n. split {P = λ k. 3 ≤ k → k < 23 → Same (b + k)} 7
+        (λ k l n h. moved (b + 3 + (k - 3)) (b + k) (omega arith)
+        (cell (λ j. getD w (b + 3 + j) 0) (λ j. getD v (b + 3 + j) 0) 4 (ap (λ c. c .endpoints) e) (k - 3) (omega arith)))
+        (λ k l n h. moved (b + 7 + (k - 7)) (b + k) (omega arith) (places-told (b + 7) (ap (λ c. c .places) e) (k - 7) (omega arith))) k n) k h
+
+  module _ (lw : getD w 4 0 < 4294967296) (lv : getD v 4 0 < 4294967296) (e : tableOf w ≡ tableOf v) where
+    both : getD w 4 0 + getD w 5 0 * 4294967296 ≡ getD v 4 0 + getD v 5 0 * 4294967296
+    both = ap (λ t. t .occupied) e
+
+    word-told : (k : ℕ) → k < wordCount → Same k
+    word-told k h =
+        split {P = λ k. k < wordCount → Same k} 4
+        (λ k l h. four Same (ap (λ t. t .address) e) (ap (λ t. t .epoch) e) (ap (λ t. t .next) e) (ap (λ t. t .listed) e) k l)
+        (λ k g. split {P = λ k. 4 ≤ k → k < wordCount → Same k} 6
+        (λ k l g h. moved (4 + (k - 4)) k (omega arith) (four (λ k. k < 2 → Same (4 + k))
+        (λ z. omega (arith, both))
+        (λ z. omega (arith, both))
+        (λ z. absurd (omega arith))
+        (λ z. absurd (omega arith)) (k - 4) (omega arith) (omega arith)))
+        (λ k m g. split {P = λ k. 6 ≤ k → k < wordCount → Same k} 190
+        (λ k l m h.
+        let j = (k - 6) / 23 in
+        let p : customerAtWord w (customerStart j) ≡ customerAtWord v (customerStart j) =
+        ap (λ l. getD l 0 (customerAtWord w 0))
+        (cells-told (λ j. customerAtWord w (customerStart j) ∷ []) (λ j. customerAtWord v (customerStart j) ∷ []) 1 (λ i. refl) (λ i. refl) 8 (ap (λ t. t .customers) e) j (omega arith)) in
+        moved (customerStart j + (k - 6) % 23) k (omega arith) (customer-told (customerStart j) p ((k - 6) % 23) (omega arith)))
+        (λ k n m h.
+        let j = (k - 190) / 32 in
+        let p : callAtWord w (callStart j) ≡ callAtWord v (callStart j) =
+        ap (λ l. getD l 0 (callAtWord w 0))
+        (cells-told (λ j. callAtWord w (callStart j) ∷ []) (λ j. callAtWord v (callStart j) ∷ []) 1 (λ i. refl) (λ i. refl) total (ap (λ t. t .calls) e) j (omega arith)) in
+        moved (callStart j + (k - 190) % 32) k (omega arith) (call-told (callStart j) p ((k - 190) % 32) (omega arith))) k m) k g) k h
+
+    -- each word has 32 bits, as those of an array have; only the occupancy's lower word needs it
+    pub words-told : length w ≡ wordCount → length v ≡ wordCount → w ≡ v
+    words-told n m = ext-getD 0 w v (n ∙ sym m) (λ i l. word-told i (omega arith))

@@ -1,0 +1,95 @@
+-- The table with one thing stored: a call, a customer, a connection, the occupancy word, the next own identifier.
+use Prim.Native.Nat.{ℕ}
+use lib.ListN.{set}
+use Rattle.table.specs.Table.{Place, Call, Customer, Table}
+
+-- another call in a slot, and the occupancy word beside it
+abbrev pub withSlot : Table → ℕ → ℕ → Call → Table
+withSlot t word i c = record {
+  address = t .address;
+  epoch = t .epoch;
+  next = t .next;
+  listed = t .listed;
+  occupied = word;
+  customers = t .customers;
+  calls = set (t .calls) i c;
+}
+
+abbrev pub withOccupied : Table → ℕ → Table
+withOccupied t word = record {
+  address = t .address;
+  epoch = t .epoch;
+  next = t .next;
+  listed = t .listed;
+  occupied = word;
+  customers = t .customers;
+  calls = t .calls;
+}
+
+abbrev pub withNext : Table → ℕ → Table
+withNext t next = record {
+  address = t .address;
+  epoch = t .epoch;
+  next = next;
+  listed = t .listed;
+  occupied = t .occupied;
+  customers = t .customers;
+  calls = t .calls;
+}
+
+abbrev pub withCustomer : Table → ℕ → Customer → Table
+withCustomer t k c = record {
+  address = t .address;
+  epoch = t .epoch;
+  next = t .next;
+  listed = t .listed;
+  occupied = t .occupied;
+  customers = set (t .customers) k c;
+  calls = t .calls;
+}
+
+-- another connection in a place of a call's four
+abbrev pub withPlace : Call → ℕ → Place → Call
+withPlace c j p = record {
+  endpoint = c .endpoint;
+  sender = c .sender;
+  refreshed = c .refreshed;
+  epoch = c .epoch;
+  identifier = c .identifier;
+  id = c .id;
+  made = c .made;
+  size = c .size;
+  name = c .name;
+  places = set (c .places) j p;
+}
+
+-- the same of a customer's four, where each place has its end point
+abbrev pub withStandalonePlace : Customer → ℕ → ℕ → Place → Customer
+withStandalonePlace c j endpoint p = record {
+  address = c .address;
+  guarantee = c .guarantee;
+  limit = c .limit;
+  endpoints = set (c .endpoints) j endpoint;
+  places = set (c .places) j p;
+}
+
+-- what a roster says of the node, and how many customers it lists
+abbrev pub withRoster : Table → ℕ → ℕ → ℕ → Table
+withRoster t address epoch listed = record {
+  address = address;
+  epoch = epoch;
+  next = t .next;
+  listed = listed;
+  occupied = t .occupied;
+  customers = t .customers;
+  calls = t .calls;
+}
+
+abbrev pub withTerms : Customer → ℕ → ℕ → ℕ → Customer
+withTerms c address guarantee limit = record {
+  address = address;
+  guarantee = guarantee;
+  limit = limit;
+  endpoints = c .endpoints;
+  places = c .places;
+}

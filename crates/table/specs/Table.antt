@@ -1,0 +1,44 @@
+-- The call table as the rules see it. Every field is one word of the array that the caller lends (Words.antt), but for a
+-- name's bytes, four to a word: a value that does not fit its field is a number that a table rule refuses.
+use Prim.Native.Nat.{ℕ}
+use mathlib.Core.List.{List}
+
+-- a place for a connection: the mark is 1 where it is taken
+pub record Place : Type 0 where
+  pub taken : ℕ
+  pub tunnel : ℕ
+  pub extended : ℕ
+  pub lsp : ℕ
+
+-- a call, with its long Call ID in the first `size` of the name's 32 bytes. Whether the node made it, its last refresh and
+-- the epoch and identifier of its request are for requests A6 and A7: a table rule holds them at zero until then.
+pub record Call : Type 0 where
+  pub endpoint : ℕ
+  pub sender : ℕ
+  pub refreshed : ℕ
+  pub epoch : ℕ
+  pub identifier : ℕ
+  pub id : ℕ
+  pub made : ℕ
+  pub size : ℕ
+  pub name : List ℕ
+  pub places : List Place
+
+-- a customer, with its connections of Call ID 0: an end point for each of the four places
+pub record Customer : Type 0 where
+  pub address : ℕ
+  pub guarantee : ℕ
+  pub limit : ℕ
+  pub endpoints : List ℕ
+  pub places : List Place
+
+-- the roster as read (own address, own epoch, the first `listed` customers), the next own identifier, and the calls: slot i
+-- is used where bit i of `occupied` is set
+pub record Table : Type 0 where
+  pub address : ℕ
+  pub epoch : ℕ
+  pub next : ℕ
+  pub listed : ℕ
+  pub occupied : ℕ
+  pub customers : List Customer
+  pub calls : List Call

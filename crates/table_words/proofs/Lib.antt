@@ -1,0 +1,7 @@
+pub mod Stored
+pub mod Made
+pub mod Found
+pub mod Copied
+pub mod NameBytes
+pub mod Zeroed
+pub mod Alike

@@ -1,0 +1,286 @@
+-- A name's bytes in its words: one byte, the bytes past the name, a name of bytes as words.
+-- Assumes nothing.
+use Prim.Native.Nat.{ℕ, zero, suc, _+_, _*_, _-_, _/_, _%_, _^_, _≤_, _<_}
+use native.Mathlib.Nat.{add-zero, zero-add, eq-or-lt-of-le, le-of-suc-le-suc, not-suc-le-zero, lt-irrefl}
+use native.Mathlib.Numerals.{add-one}
+use native.Mathlib.Omega.{arith}
+use mathlib.Core.Path.{_≡_, refl, sym, ap, _∙_}
+use mathlib.Core.Logic.{⊎-elim}
+use mathlib.Core.List.{List, [], _∷_, _++_}
+use mathlib.Core.Bool.{Bool, true, false, _||_}
+use lib.Dec.{ltb, eqb}
+use lib.ListN.{length, getD, set, take, drop, replicate, length-append, length-set, length-take, length-drop, List·getD-append, List·getD-eq-default, drop-of-length-le}
+use lib.Seq.{drop-cons, getD-append-add, getD-take, getD-drop, getD-set-same, getD-set-other, ext-getD}
+use borrow.Author.Tests.{eq-eqb, eqb-true, ltb-true, ltb-false, lt-ltb, le-ltb}
+use Rattle.numbers.specs.Search.{zerosAt}
+use Rattle.numbers.specs.Buffer.{atFront}
+use Rattle.lists.specs.Below.{below, everyBelow}
+use Rattle.lists.proofs.Tests.{both}
+use Rattle.lists.proofs.Below.{every-within, every-at}
+use Rattle.table.specs.Words.{bytesOf, nameAtWord}
+use Rattle.table.proofs.Names.{alike}
+use Rattle.table.proofs.Told.{four}
+
+pub name-long : (w : List ℕ) (b : ℕ) → length (nameAtWord w b) ≡ 32
+unfolding below
+name-long w b = refl
+
+-- ---- zeros in a row
+
+pub zeros-drop : (x : List ℕ) (n m : ℕ) → n + m ≡ length x → zerosAt x n m ≡ true → drop n x ≡ replicate m 0
+unfolding zerosAt
+zeros-drop x n zero e h = drop-of-length-le x {i = n} (omega arith)
+zeros-drop x n (suc m) e h =
+    let k = both (eqb (getD x n 0) 0) (zerosAt x (n + 1) m) h in
+    let l : n < length x = omega arith in
+    let r : drop (suc n) x ≡ replicate m 0 = rw (add-one n) at (zeros-drop x (n + 1) m (omega arith) (k .1)) in
+    rw (drop-cons x n 0 l, r, eqb-true (getD x n 0) 0 (k .0))
+
+zeros-each : (s : List ℕ) (at n : ℕ) → ((j : ℕ) → at ≤ j → j < at + n → getD s j 0 ≡ 0) → zerosAt s at n ≡ true
+unfolding zerosAt
+zeros-each s at zero h = refl
+zeros-each s at (suc n) h =
+    rw (eq-eqb (getD s at 0) 0 (h at (omega arith) (omega arith)), zeros-each s (at + 1) n (λ j l m. h j (omega arith) (omega arith)))
+
+zeros-here : (s : List ℕ) (at n : ℕ) → zerosAt s at n ≡ true → (j : ℕ) → at ≤ j → j < at + n → getD s j 0 ≡ 0
+unfolding zerosAt
+zeros-here s at zero h j l m = let z : ⊥ = omega arith in absurd z
+zeros-here s at (suc n) h j l m =
+    let k = both (eqb (getD s at 0) 0) (zerosAt s (at + 1) n) h in
+    ⊎-elim
+    (λ (e : at ≡ j). rw (← e) (eqb-true (getD s at 0) 0 (k .0)))
+    (λ (b : at < j). zeros-here s (at + 1) n (k .1) j (omega arith) (omega arith))
+    (eq-or-lt-of-le l)
+
+-- ---- an element of cells of four
+
+cells-long : (f : ℕ → List ℕ) → ((i : ℕ) → length (f i) ≡ 4) → (n : ℕ) → length (below f n) ≡ 4 * n
+unfolding below
+cells-long f p zero = refl
+cells-long f p (suc n) = omega (arith, length-append (below f n) (f n), cells-long f p n, p n)
+
+cell-get : (f : ℕ → List ℕ) → ((i : ℕ) → length (f i) ≡ 4) → (n k m : ℕ) → k < n → m < 4 → getD (below f n) (4 * k + m) 0 ≡ getD (f k) m 0
+unfolding below
+cell-get f p zero k m h l = absurd (not-suc-le-zero h)
+cell-get f p (suc n) k m h l =
+    ⊎-elim
+    (λ (e : k ≡ n). rw e (ap (λ (i : ℕ). getD (below f n ++ f n) (i + m) 0) (sym (cells-long f p n)) ∙ getD-append-add (below f n) (f n) m 0))
+    (λ (b : k < n). List·getD-append (below f n) (f n) 0 (4 * k + m) (omega (arith, cells-long f p n)) ∙ cell-get f p n k m b l)
+    (eq-or-lt-of-le (le-of-suc-le-suc h))
+
+module _ (w : List ℕ) (b : ℕ) where
+  pub name-at : (k m : ℕ) → k < 8 → m < 4 → getD (nameAtWord w b) (4 * k + m) 0 ≡ getD (bytesOf (getD w (b + k) 0)) m 0
+  name-at k m h l = cell-get (λ k. bytesOf (getD w (b + k) 0)) (λ i. refl) 8 k m h l
+
+  pub name-byte-at : (k : ℕ) → k < 32 → getD (nameAtWord w b) k 0 ≡ getD (bytesOf (getD w (b + k / 4) 0)) (k % 4) 0
+  name-byte-at k h =
+      let s : k ≡ 4 * (k / 4) + k % 4 = omega arith in
+      ap (λ (n : ℕ). getD (nameAtWord w b) n 0) s ∙ name-at (k / 4) (k % 4) (omega arith) (omega arith)
+
+-- ---- one byte of a word, by a shift
+
+pub byte-shifted : (x : ℕ) → x < 4294967296 → (j : ℕ) → j < 4 → x / 2 ^ (8 * j) % 256 ≡ getD (bytesOf x) j 0
+byte-shifted x h =
+    four (λ j. x / 2 ^ (8 * j) % 256 ≡ getD (bytesOf x) j 0)
+    (omega arith)
+    refl
+    refl
+    (omega arith)
+
+-- ---- the bytes of a word from one of them on
+
+-- a test of the bytes from n on
+abbrev pub clearFrom : ℕ → ℕ → Bool
+clearFrom x n = everyBelow (λ j. ltb j n || eqb (getD (bytesOf x) j 0) 0) 4
+
+or-right : (a b : Bool) → (a || b) ≡ true → a ≡ false → b ≡ true
+or-right true b h e = cc
+or-right false b h e = h
+
+from-zeros : (x n : ℕ) → ((j : ℕ) → j < 4 → n ≤ j → getD (bytesOf x) j 0 ≡ 0) → clearFrom x n ≡ true
+from-zeros x n h = every-within _ 4 (λ j l. go j l (ltb j n) refl)
+  where
+    go : (j : ℕ) → j < 4 → (s : Bool) → ltb j n ≡ s → (s || eqb (getD (bytesOf x) j 0) 0) ≡ true
+    go j l true e = refl
+    go j l false e = eq-eqb _ _ (h j l (ltb-false j n e))
+
+zeros-from : (x n : ℕ) → clearFrom x n ≡ true → (j : ℕ) → j < 4 → n ≤ j → getD (bytesOf x) j 0 ≡ 0
+zeros-from x n h j l m =
+    eqb-true _ _ (or-right (ltb j n) _ (every-at (λ j. ltb j n || eqb (getD (bytesOf x) j 0) 0) 4 h j l) (le-ltb j n m))
+
+pub clear-from-four : (x n : ℕ) → 4 ≤ n → true ≡ clearFrom x n
+clear-from-four x n h = sym (from-zeros x n (λ j l m. let z : ⊥ = omega arith in absurd z))
+
+-- the last bytes are zero where the word is small
+small-3 : (x : ℕ) → x / 16777216 ≡ 0 → x < 16777216
+small-3 x h = omega arith
+
+small-2 : (x : ℕ) → x / 65536 % 256 ≡ 0 → x / 16777216 ≡ 0 → x < 65536
+small-2 x h k = omega arith
+
+small-1 : (x : ℕ) → x / 256 % 256 ≡ 0 → x < 65536 → x < 256
+small-1 x h k = omega arith
+
+pub clear-from-three : (x : ℕ) → ltb x 16777216 ≡ clearFrom x 3
+clear-from-three x =
+    alike _ _
+    (λ h. let l = ltb-true x 16777216 h in
+    from-zeros x 3 (four (λ j. 3 ≤ j → getD (bytesOf x) j 0 ≡ 0)
+    (λ m. let z : ⊥ = omega arith in absurd z)
+    (λ m. let z : ⊥ = omega arith in absurd z)
+    (λ m. let z : ⊥ = omega arith in absurd z)
+    (λ m. omega arith)))
+    (λ h. let g = zeros-from x 3 h in lt-ltb x 16777216 (small-3 x (g 3 (omega arith) (omega arith))))
+
+pub clear-from-two : (x : ℕ) → ltb x 65536 ≡ clearFrom x 2
+clear-from-two x =
+    alike _ _
+    (λ h. let l = ltb-true x 65536 h in
+    from-zeros x 2 (four (λ j. 2 ≤ j → getD (bytesOf x) j 0 ≡ 0)
+    (λ m. let z : ⊥ = omega arith in absurd z)
+    (λ m. let z : ⊥ = omega arith in absurd z)
+    (λ m. omega arith)
+    (λ m. omega arith)))
+    (λ h. let g = zeros-from x 2 h in lt-ltb x 65536 (small-2 x (g 2 (omega arith) (omega arith)) (g 3 (omega arith) (omega arith))))
+
+pub clear-from-one : (x : ℕ) → ltb x 256 ≡ clearFrom x 1
+clear-from-one x =
+    alike _ _
+    (λ h. let l = ltb-true x 256 h in
+    from-zeros x 1 (four (λ j. 1 ≤ j → getD (bytesOf x) j 0 ≡ 0)
+    (λ m. let z : ⊥ = omega arith in absurd z)
+    (λ m. omega arith)
+    (λ m. omega arith)
+    (λ m. omega arith)))
+    (λ h. let g = zeros-from x 1 h in
+    lt-ltb x 256 (small-1 x (g 1 (omega arith) (omega arith)) (small-2 x (g 2 (omega arith) (omega arith)) (g 3 (omega arith) (omega arith)))))
+
+pub clear-from-none : (x : ℕ) → eqb x 0 ≡ clearFrom x 0
+clear-from-none x =
+    alike _ _
+    (λ h. let l : x ≡ 0 = eqb-true x 0 h in
+    from-zeros x 0 (four (λ j. 0 ≤ j → getD (bytesOf x) j 0 ≡ 0) (λ m. omega arith) (λ m. omega arith) (λ m. omega arith) (λ m. omega arith)))
+    (λ h. let g = zeros-from x 0 h in
+    let s : x < 256 = small-1 x (g 1 (omega arith) (omega arith)) (small-2 x (g 2 (omega arith) (omega arith)) (g 3 (omega arith) (omega arith))) in
+    let e : x % 256 ≡ 0 = g 0 (omega arith) (omega arith) in
+    eq-eqb x 0 (omega arith))
+
+-- ---- the bytes past a name
+
+-- word by word, each from the byte that is past the name
+pub past-name : (w : List ℕ) (b size : ℕ) → everyBelow (λ k. clearFrom (getD w (b + k) 0) (size - 4 * k)) 8 ≡ zerosAt (nameAtWord w b) size (32 - size)
+past-name w b size = alike _ _ bytes words
+  where
+    bytes : everyBelow (λ k. clearFrom (getD w (b + k) 0) (size - 4 * k)) 8 ≡ true → zerosAt (nameAtWord w b) size (32 - size) ≡ true
+    bytes h =
+        zeros-each (nameAtWord w b) size (32 - size)
+        (λ j l m.
+        name-byte-at w b j (omega arith)
+        ∙ zeros-from (getD w (b + j / 4) 0) (size - 4 * (j / 4)) (every-at (λ k. clearFrom (getD w (b + k) 0) (size - 4 * k)) 8 h (j / 4) (omega arith)) (j % 4) (omega arith) (omega arith))
+
+    words : zerosAt (nameAtWord w b) size (32 - size) ≡ true → everyBelow (λ k. clearFrom (getD w (b + k) 0) (size - 4 * k)) 8 ≡ true
+    words h =
+        every-within _ 8
+        (λ k l. from-zeros (getD w (b + k) 0) (size - 4 * k)
+        (λ j m n. sym (name-at w b k j l m) ∙ zeros-here (nameAtWord w b) size (32 - size) h (4 * k + j) (omega arith) (omega arith)))
+
+-- ---- a name of bytes as words
+
+pub name-within : (s : List ℕ) (at n k : ℕ) → k < n → getD s (at + k) 0 ≡ getD (take n (drop at s)) k 0
+name-within s at n k h = sym (getD-take n (drop at s) k 0 h ∙ getD-drop at s k 0)
+
+pub name-fits : (s : List ℕ) (at n : ℕ) → n ≤ 32 → length (take n (drop at s)) ≤ 32
+name-fits s at n h = omega (arith, length-take n (drop at s))
+
+pub name-past : (s : List ℕ) (at n k : ℕ) → n ≤ k → _≡_ {A = ℕ} 0 (getD (take n (drop at s)) k 0)
+name-past s at n k h = sym (List·getD-eq-default (take n (drop at s)) 0 {n = k} (omega (arith, length-take n (drop at s))))
+
+low : (a y : ℕ) → a < 256 → (a + y * 256) % 256 ≡ a
+low a y h = omega arith
+
+high : (a y : ℕ) → a < 256 → (a + y * 256) / 256 ≡ y
+high a y h = omega arith
+
+-- a word of four bytes
+pub word-bytes : (a b c d : ℕ) → a < 256 → b < 256 → c < 256 → d < 256 → bytesOf (a + b * 256 + c * 65536 + d * 16777216) ≡ a ∷ b ∷ c ∷ d ∷ []
+word-bytes a b c d ha hb hc hd =
+    let z = c + d * 256 in
+    let y = b + z * 256 in
+    let s : a + b * 256 + c * 65536 + d * 16777216 ≡ a + y * 256 = omega arith in
+    let twice : (x : ℕ) → x / 65536 ≡ x / 256 / 256 = λ x. omega arith in
+    let thrice : (x : ℕ) → x / 16777216 ≡ x / 256 / 256 / 256 = λ x. omega arith in
+    rw (s, twice, thrice, low a y ha, high a y ha, low b z hb, high b z hb, low c d hc, high c d hc)
+
+-- the words so far have the bytes of x, zeros behind it
+pub record Spelled (x name : List ℕ) (n : ℕ) : Type 0 where
+  pub long : length name ≡ 8
+  pub word : (k : ℕ) → k < n → bytesOf (getD name k 0) ≡ getD x (4 * k) 0 ∷ getD x (4 * k + 1) 0 ∷ getD x (4 * k + 2) 0 ∷ getD x (4 * k + 3) 0 ∷ []
+
+pub spelled-none : (x name : List ℕ) → length name ≡ 8 → Spelled x name 0
+spelled-none x name l = record { long = l; word = λ k h. absurd (not-suc-le-zero h) }
+
+pub spelled-turn : (x name : List ℕ) (n a b c d : ℕ) → n < 8 → Spelled x name n
+    → (a ≡ getD x (4 * n) 0) × (a < 256) → (b ≡ getD x (4 * n + 1) 0) × (b < 256) → (c ≡ getD x (4 * n + 2) 0) × (c < 256) → (d ≡ getD x (4 * n + 3) 0) × (d < 256)
+    → Spelled x (set name n (a + b * 256 + c * 65536 + d * 16777216)) (n + 1)
+spelled-turn x name n a b c d h s ea eb ec ed = record {
+  long = length-set name n v ∙ s .long;
+  word = λ k m.
+      ⊎-elim
+      (λ (e : k ≡ n).
+      rw (e, getD-set-same name n v 0 (omega (arith, s .long)), word-bytes a b c d (ea .1) (eb .1) (ec .1) (ed .1), ea .0, eb .0, ec .0, ed .0))
+      (λ (l : k < n). rw (getD-set-other name n k v 0 (λ e. lt-irrefl n (rw e at l))) (s .word k l))
+      (eq-or-lt-of-le (le-of-suc-le-suc (rw (add-one n) at m)));
+}
+  where
+    v : ℕ
+    v = a + b * 256 + c * 65536 + d * 16777216
+
+pub zero-get : (n j : ℕ) → getD (replicate {A = ℕ} n 0) j 0 ≡ 0
+zero-get zero j = refl
+zero-get (suc n) zero = refl
+zero-get (suc n) (suc j) = zero-get n j
+
+-- zeros behind a list are what a read past its end gives
+front-get : (x : List ℕ) (n i : ℕ) → getD (atFront x (replicate n 0)) i 0 ≡ getD x i 0
+unfolding atFront
+front-get x n i = go (ltb i (length x)) refl
+  where
+    zeros : List ℕ
+    zeros = drop (length x) (replicate {A = ℕ} n 0)
+
+    go : (s : Bool) → ltb i (length x) ≡ s → getD (x ++ drop (length x) (replicate {A = ℕ} n 0)) i 0 ≡ getD x i 0
+    go true e = List·getD-append x zeros 0 i (ltb-true i (length x) e)
+    go false e =
+        let l : length x ≤ i = ltb-false i (length x) e in
+        let s : i ≡ length x + (i - length x) = omega arith in
+        ap (λ (k : ℕ). getD (x ++ zeros) k 0) s
+        ∙ getD-append-add x zeros (i - length x) 0
+        ∙ getD-drop (length x) (replicate {A = ℕ} n 0) (i - length x) 0
+        ∙ zero-get n (length x + (i - length x))
+        ∙ sym (List·getD-eq-default x 0 l)
+
+front-long : (x b : List ℕ) → length x ≤ length b → length (atFront x b) ≡ length b
+unfolding atFront
+front-long x b h = omega (arith, length-append x (drop (length x) b), length-drop (length x) b)
+
+pub spelled-all : (x name : List ℕ) → length x ≤ 32 → Spelled x name 8 → nameAtWord name 0 ≡ atFront x (replicate 32 0)
+spelled-all x name l s =
+    ext-getD 0 _ _ (name-long name 0 ∙ sym (front-long x (replicate 32 0) l))
+    (λ i h. byte i (omega (arith, name-long name 0)) ∙ sym (front-get x 32 i))
+  where
+    cell : (k : ℕ) → k < 8 → (m : ℕ) → m < 4 → getD (bytesOf (getD name k 0)) m 0 ≡ getD x (4 * k + m) 0
+    cell k h =
+        let e = s .word k h in
+        four (λ m. getD (bytesOf (getD name k 0)) m 0 ≡ getD x (4 * k + m) 0)
+        (ap (λ l. getD l 0 0) e ∙ ap (λ (n : ℕ). getD x n 0) (sym (add-zero (4 * k))))
+        (ap (λ l. getD l 1 0) e)
+        (ap (λ l. getD l 2 0) e)
+        (ap (λ l. getD l 3 0) e)
+
+    byte : (i : ℕ) → i < 32 → getD (nameAtWord name 0) i 0 ≡ getD x i 0
+    byte i h =
+        let z : 4 * (i / 4) + i % 4 ≡ i = omega arith in
+        name-byte-at name 0 i h
+        ∙ ap (λ (n : ℕ). getD (bytesOf (getD name n 0)) (i % 4) 0) (zero-add (i / 4))
+        ∙ cell (i / 4) (omega arith) (i % 4) (omega arith)
+        ∙ ap (λ (n : ℕ). getD x n 0) z

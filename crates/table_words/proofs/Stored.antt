@@ -1,0 +1,240 @@
+-- Words stored: the table with another head, with another call in a slot, with another customer, with another connection in
+-- a four.
+-- Assumes nothing.
+use Prim.Native.Nat.{ℕ, _+_, _*_, _≤_, _<_}
+use native.Mathlib.Omega.{arith}
+use mathlib.Core.Path.{_≡_, sym, ap, _∙_}
+use mathlib.Core.List.{List, [], _∷_}
+use lib.ListN.{length, getD, set, length-set}
+use lib.Seq.{getD-set-same, getD-set-other}
+use Rattle.lists.proofs.Below.{below-ext, set-each}
+use Rattle.table.specs.Total.{total}
+use Rattle.table.specs.Lists.{callAt, customerAt}
+use Rattle.table.specs.Stores.{withSlot, withCustomer, withPlace, withStandalonePlace, withTerms, withNext, withOccupied, withRoster}
+use Rattle.table.specs.Words.{placeAtWord, placesAtWord, callAtWord, customerAtWord, customersOf, slotsOf, occupiedOf, customerStart, callStart, tableOf}
+use Rattle.table.proofs.Cells.{call-at, customer-at, name-same, place-same, places-same, customers-same, calls-same, calls-set, customers-set}
+
+-- words that are as they were but for the n from b on
+abbrev pub Elsewhere : List ℕ → List ℕ → ℕ → ℕ → Type 0
+Elsewhere w v b n = (j : ℕ) → (b ≤ j → j < b + n → ⊥) → getD v j 0 ≡ getD w j 0
+
+module _ (w v : List ℕ) where
+  -- words that differ in the head only
+  pub head-changed : Elsewhere w v 0 6 → tableOf v ≡ record {
+    address = getD v 0 0;
+    epoch = getD v 1 0;
+    next = getD v 2 0;
+    listed = getD v 3 0;
+    occupied = occupiedOf v;
+    customers = customersOf w;
+    calls = slotsOf w;
+  }
+  head-changed other = rw (customers-same w v (λ j p q. other j (λ r s. omega arith)), calls-same w v (λ j p. other j (λ r s. omega arith)))
+
+  module _ (b n : ℕ) (past : 6 ≤ b) (other : Elsewhere w v b n) where
+    head : (j : ℕ) → j < 6 → getD v j 0 ≡ getD w j 0
+    head j l = other j (λ r s. omega arith)
+
+  -- words that differ in one slot only
+  pub slot-changed : (i : ℕ) → i < total → Elsewhere w v (callStart i) 32
+      → tableOf v ≡ withSlot (tableOf w) (occupiedOf w) i (callAtWord v (callStart i))
+  slot-changed i l other =
+      let h = head (callStart i) 32 (omega arith) other in
+      rw (
+        h 0 (omega arith),
+        h 1 (omega arith),
+        h 2 (omega arith),
+        h 3 (omega arith),
+        h 4 (omega arith),
+        h 5 (omega arith),
+        customers-same w v (λ j p q. other j (λ r s. omega arith)),
+        calls-set w v i l other,
+      )
+
+  -- words that differ in one customer only
+  pub customer-changed : (k : ℕ) → k < 8 → Elsewhere w v (customerStart k) 23
+      → tableOf v ≡ withCustomer (tableOf w) k (customerAtWord v (customerStart k))
+  customer-changed k l other =
+      let h = head (customerStart k) 23 (omega arith) other in
+      rw (
+        h 0 (omega arith),
+        h 1 (omega arith),
+        h 2 (omega arith),
+        h 3 (omega arith),
+        h 4 (omega arith),
+        h 5 (omega arith),
+        customers-set w v k l other,
+        calls-same w v (λ j p. other j (λ r s. omega arith)),
+      )
+
+  -- words that differ in one place of a four, from the first of the four on
+  module _ (p j : ℕ) (l : j < 4) (other : (i : ℕ) → p ≤ i → (p + 4 * j ≤ i → i < p + 4 * j + 4 → ⊥) → getD v i 0 ≡ getD w i 0) where
+    pub places-changed : placesAtWord v p ≡ set (placesAtWord w p) j (placeAtWord v (p + 4 * j))
+    places-changed =
+        sym (set-each (λ k. placeAtWord w (p + 4 * k)) (λ k. placeAtWord v (p + 4 * k)) 4 j l
+        (λ k n. place-same w v (p + 4 * k) (p + 4 * k) (λ o q. sym (other (p + 4 * k + o) (omega arith) (λ r s. n (omega arith))))))
+
+-- ---- one word after another
+
+-- a connection's four words stored
+abbrev pub set4 : List ℕ → ℕ → ℕ → ℕ → ℕ → ℕ → List ℕ
+set4 w b x y z u = set (set (set (set w b x) (b + 1) y) (b + 2) z) (b + 3) u
+
+module _ (w : List ℕ) (b x y z u : ℕ) (fits : b + 4 ≤ length w) where
+  pub set4-other : Elsewhere w (set4 w b x y z u) b 4
+  set4-other j n =
+      let a1 = set w b x in
+      let a2 = set a1 (b + 1) y in
+      let a3 = set a2 (b + 2) z in
+      getD-set-other a3 (b + 3) j u 0 (λ e. n (omega arith) (omega arith))
+      ∙ getD-set-other a2 (b + 2) j z 0 (λ e. n (omega arith) (omega arith))
+      ∙ getD-set-other a1 (b + 1) j y 0 (λ e. n (omega arith) (omega arith))
+      ∙ getD-set-other w b j x 0 (λ e. n (omega arith) (omega arith))
+
+  pub set4-here : placeAtWord (set4 w b x y z u) b ≡ record { taken = x; tunnel = y; extended = z; lsp = u }
+  set4-here =
+      let a1 = set w b x in
+      let a2 = set a1 (b + 1) y in
+      let a3 = set a2 (b + 2) z in
+      let n1 = length-set w b x in
+      let n2 = length-set a1 (b + 1) y in
+      let n3 = length-set a2 (b + 2) z in
+      let v = set4 w b x y z u in
+      let p : getD v b 0 ≡ x =
+      getD-set-other a3 (b + 3) b u 0 (λ e. omega arith) ∙ getD-set-other a2 (b + 2) b z 0 (λ e. omega arith)
+      ∙ getD-set-other a1 (b + 1) b y 0 (λ e. omega arith) ∙ getD-set-same w b x 0 (omega arith) in
+      let q : getD v (b + 1) 0 ≡ y =
+      getD-set-other a3 (b + 3) (b + 1) u 0 (λ e. omega arith) ∙ getD-set-other a2 (b + 2) (b + 1) z 0 (λ e. omega arith)
+      ∙ getD-set-same a1 (b + 1) y 0 (omega arith) in
+      let r : getD v (b + 2) 0 ≡ z = getD-set-other a3 (b + 3) (b + 2) u 0 (λ e. omega arith) ∙ getD-set-same a2 (b + 2) z 0 (omega arith) in
+      let s : getD v (b + 3) 0 ≡ u = getD-set-same a3 (b + 3) u 0 (omega arith) in
+      rw (p, q, r, s)
+
+-- a connection stored under a call
+module _ (w : List ℕ) (i j x y z u : ℕ) (long : length w ≡ 2238) (l : i < total) (m : j < 4) where
+  pub call-place-stored : tableOf (set4 w (callStart i + 16 + 4 * j) x y z u)
+      ≡ withSlot (tableOf w) (occupiedOf w) i (withPlace (callAt (tableOf w) i) j (record { taken = x; tunnel = y; extended = z; lsp = u }))
+  call-place-stored =
+      let b = callStart i in
+      let at = b + 16 + 4 * j in
+      let v = set4 w at x y z u in
+      let other = set4-other w at x y z u (omega arith) in
+      let f : (k : ℕ) → k < 16 → getD v (b + k) 0 ≡ getD w (b + k) 0 = λ k n. other (b + k) (λ p q. omega arith) in
+      let places : placesAtWord v (b + 16) ≡ set (placesAtWord w (b + 16)) j (record { taken = x; tunnel = y; extended = z; lsp = u }) =
+      places-changed w v (b + 16) j m (λ k o n. other k n) ∙ ap (λ p. set (placesAtWord w (b + 16)) j p) (set4-here w at x y z u (omega arith)) in
+      let here : callAtWord v b ≡ withPlace (callAtWord w b) j (record { taken = x; tunnel = y; extended = z; lsp = u }) =
+      rw (
+        other b (λ p q. omega arith),
+        f 1 (omega arith),
+        f 2 (omega arith),
+        f 3 (omega arith),
+        f 4 (omega arith),
+        f 5 (omega arith),
+        f 6 (omega arith),
+        f 7 (omega arith),
+        name-same v w (b + 8) (b + 8) (λ k n. other (b + 8 + k) (λ p q. omega arith)),
+        places,
+      ) in
+      rw (call-at w i l) (slot-changed w v i l (λ k n. other k (λ p q. n (omega arith) (omega arith))) ∙ ap (λ c. withSlot (tableOf w) (occupiedOf w) i c) here)
+
+-- a connection of Call ID 0 stored with a customer, its end point first
+module _ (w : List ℕ) (k j e x y z u : ℕ) (long : length w ≡ 2238) (l : k < 8) (m : j < 4) where
+  pub customer-place-stored : tableOf (set4 (set w (customerStart k + 3 + j) e) (customerStart k + 7 + 4 * j) x y z u)
+      ≡ withCustomer (tableOf w) k (withStandalonePlace (customerAt (tableOf w) k) j e (record { taken = x; tunnel = y; extended = z; lsp = u }))
+  customer-place-stored =
+      let b = customerStart k in
+      let at = b + 7 + 4 * j in
+      let a = set w (b + 3 + j) e in
+      let n = length-set w (b + 3 + j) e in
+      let v = set4 a at x y z u in
+      let first : (i : ℕ) → (i ≡ b + 3 + j → ⊥) → getD a i 0 ≡ getD w i 0 = λ i o. getD-set-other w (b + 3 + j) i e 0 o in
+      let then = set4-other a at x y z u (omega arith) in
+      let other : (i : ℕ) → (i ≡ b + 3 + j → ⊥) → (at ≤ i → i < at + 4 → ⊥) → getD v i 0 ≡ getD w i 0 = λ i o q. then i q ∙ first i o in
+      let f : (i : ℕ) → i < 3 → getD v (b + i) 0 ≡ getD w (b + i) 0 = λ i o. other (b + i) (λ p. omega arith) (λ p q. omega arith) in
+      let ends : customerAtWord v b .endpoints ≡ set (customerAtWord w b .endpoints) j e =
+      below-ext _ _ 4 (λ i o. ap (λ (q : ℕ). q ∷ []) (then (b + 3 + i) (λ p q. omega arith)))
+      ∙ sym (set-each (λ i. getD w (b + 3 + i) 0) (λ i. getD a (b + 3 + i) 0) 4 j m (λ i o. sym (first (b + 3 + i) (λ p. o (omega arith)))))
+      ∙ ap (λ (q : ℕ). set (customerAtWord w b .endpoints) j q) (getD-set-same w (b + 3 + j) e 0 (omega arith)) in
+      let places : placesAtWord v (b + 7) ≡ set (placesAtWord w (b + 7)) j (record { taken = x; tunnel = y; extended = z; lsp = u }) =
+      places-changed w v (b + 7) j m (λ i o q. other i (λ p. omega arith) q) ∙ ap (λ p. set (placesAtWord w (b + 7)) j p) (set4-here a at x y z u (omega arith)) in
+      let here : customerAtWord v b ≡ withStandalonePlace (customerAtWord w b) j e (record { taken = x; tunnel = y; extended = z; lsp = u }) =
+      rw (other b (λ p. omega arith) (λ p q. omega arith), f 1 (omega arith), f 2 (omega arith), ends, places) in
+      rw (customer-at w k l)
+      (customer-changed w v k l (λ i o. other i (λ p. o (omega arith) (omega arith)) (λ p q. o (omega arith) (omega arith))) ∙ ap (λ c. withCustomer (tableOf w) k c) here)
+
+-- a customer's terms stored
+module _ (w : List ℕ) (k x y z : ℕ) (long : length w ≡ 2238) (l : k < 8) where
+  pub terms-stored : tableOf (set (set (set w (customerStart k) x) (customerStart k + 1) y) (customerStart k + 2) z)
+      ≡ withCustomer (tableOf w) k (withTerms (customerAt (tableOf w) k) x y z)
+  terms-stored =
+      let b = customerStart k in
+      let a1 = set w b x in
+      let a2 = set a1 (b + 1) y in
+      let v = set a2 (b + 2) z in
+      let n1 = length-set w b x in
+      let n2 = length-set a1 (b + 1) y in
+      let other : Elsewhere w v b 3 = λ j n.
+      getD-set-other a2 (b + 2) j z 0 (λ e. n (omega arith) (omega arith))
+      ∙ getD-set-other a1 (b + 1) j y 0 (λ e. n (omega arith) (omega arith))
+      ∙ getD-set-other w b j x 0 (λ e. n (omega arith) (omega arith)) in
+      let p : getD v b 0 ≡ x =
+      getD-set-other a2 (b + 2) b z 0 (λ e. omega arith) ∙ getD-set-other a1 (b + 1) b y 0 (λ e. omega arith) ∙ getD-set-same w b x 0 (omega arith) in
+      let q : getD v (b + 1) 0 ≡ y = getD-set-other a2 (b + 2) (b + 1) z 0 (λ e. omega arith) ∙ getD-set-same a1 (b + 1) y 0 (omega arith) in
+      let r : getD v (b + 2) 0 ≡ z = getD-set-same a2 (b + 2) z 0 (omega arith) in
+      let ends : customerAtWord v b .endpoints ≡ customerAtWord w b .endpoints =
+      below-ext _ _ 4 (λ i o. ap (λ (n : ℕ). n ∷ []) (other (b + 3 + i) (λ p q. omega arith))) in
+      let here : customerAtWord v b ≡ withTerms (customerAtWord w b) x y z =
+      rw (p, q, r, ends, places-same v w (b + 7) (b + 7) (λ i o. other (b + 7 + i) (λ p q. omega arith))) in
+      rw (customer-at w k l) (customer-changed w v k l (λ i o. other i (λ p q. o (omega arith) (omega arith))) ∙ ap (λ c. withCustomer (tableOf w) k c) here)
+
+-- ---- the head
+
+pub next-stored : (w : List ℕ) (n : ℕ) → length w ≡ 2238 → tableOf (set w 2 n) ≡ withNext (tableOf w) n
+next-stored w n long =
+    let other : (j : ℕ) → (j ≡ 2 → ⊥) → getD (set w 2 n) j 0 ≡ getD w j 0 = λ j p. getD-set-other w 2 j n 0 p in
+    head-changed w (set w 2 n) (λ j p. other j (λ q. p (omega arith) (omega arith)))
+    ∙ rw (
+      other 0 (λ q. omega arith),
+      other 1 (λ q. omega arith),
+      getD-set-same w 2 n 0 (omega arith),
+      other 3 (λ q. omega arith),
+      other 4 (λ q. omega arith),
+      other 5 (λ q. omega arith),
+    )
+
+-- the occupancy word in its two words
+pub occupied-stored : (w : List ℕ) (lo hi n : ℕ) → length w ≡ 2238 → lo + hi * 4294967296 ≡ n
+    → tableOf (set (set w 4 lo) 5 hi) ≡ withOccupied (tableOf w) n
+occupied-stored w lo hi n long e =
+    let a = set w 4 lo in
+    let v = set a 5 hi in
+    let other : (j : ℕ) → (j ≡ 4 → ⊥) → (j ≡ 5 → ⊥) → getD v j 0 ≡ getD w j 0 = λ j p q. getD-set-other a 5 j hi 0 q ∙ getD-set-other w 4 j lo 0 p in
+    head-changed w v (λ j p. other j (λ q. p (omega arith) (omega arith)) (λ q. p (omega arith) (omega arith)))
+    ∙ rw (
+      other 0 (λ q. omega arith) (λ q. omega arith),
+      other 1 (λ q. omega arith) (λ q. omega arith),
+      other 2 (λ q. omega arith) (λ q. omega arith),
+      other 3 (λ q. omega arith) (λ q. omega arith),
+      getD-set-other a 5 4 hi 0 (λ q. omega arith) ∙ getD-set-same w 4 lo 0 (omega arith),
+      getD-set-same a 5 hi 0 (omega (arith, length-set w 4 lo)),
+      e,
+    )
+
+pub roster-stored : (w : List ℕ) (x y z : ℕ) → length w ≡ 2238 → tableOf (set (set (set w 0 x) 1 y) 3 z) ≡ withRoster (tableOf w) x y z
+roster-stored w x y z long =
+    let a = set w 0 x in
+    let b = set a 1 y in
+    let v = set b 3 z in
+    let n = length-set w 0 x in
+    let m = length-set a 1 y in
+    let other : (j : ℕ) → (j ≡ 0 → ⊥) → (j ≡ 1 → ⊥) → (j ≡ 3 → ⊥) → getD v j 0 ≡ getD w j 0 =
+    λ j p q r. getD-set-other b 3 j z 0 r ∙ getD-set-other a 1 j y 0 q ∙ getD-set-other w 0 j x 0 p in
+    head-changed w v (λ j p. other j (λ q. p (omega arith) (omega arith)) (λ q. p (omega arith) (omega arith)) (λ q. p (omega arith) (omega arith)))
+    ∙ rw (
+      getD-set-other b 3 0 z 0 (λ q. omega arith) ∙ getD-set-other a 1 0 y 0 (λ q. omega arith) ∙ getD-set-same w 0 x 0 (omega arith),
+      getD-set-other b 3 1 z 0 (λ q. omega arith) ∙ getD-set-same a 1 y 0 (omega arith),
+      other 2 (λ q. omega arith) (λ q. omega arith) (λ q. omega arith),
+      getD-set-same b 3 z 0 (omega arith),
+      other 4 (λ q. omega arith) (λ q. omega arith) (λ q. omega arith),
+      other 5 (λ q. omega arith) (λ q. omega arith) (λ q. omega arith),
+    )

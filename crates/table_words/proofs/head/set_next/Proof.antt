@@ -1,0 +1,17 @@
+-- `head::set_next` meets its contract.
+use Rattle.table_words.proofs.Stored.{next-stored}
+use borrow.Author.Needs.{needs}
+use Rattle.table_words.proofs.head.set_next.Statement.{statement}
+use Rattle.table_words.proofs.head.set_next.Tie as tie
+
+sized-requires : tie.Need-sized-requires
+sized-requires c κs = search needs
+
+element-write-t : tie.Need-element-write-t
+element-write-t c = search needs
+
+returns : tie.Need-returns
+returns c = next-stored (c .before .before .args .t .now) (c .before .before .args .next) (c .sized .ensures)
+
+pub set-next-spec : {M : Type 1} → statement M
+set-next-spec = tie.close (tie.spec sized-requires element-write-t returns)

@@ -1,0 +1,68 @@
+-- `place_with` meets its contract: after `j` turns it knows of the first `j` places.
+use Prim.Native.Nat.{_≤_, _<_, _-_}
+use native.Mathlib.Omega.{arith}
+use mathlib.Core.Path.{_≡_, sym, _∙_}
+use Rattle.lists.proofs.Below.{has-when}
+use Rattle.table.specs.Lists.{heldPlace}
+use Rattle.table.specs.Rules.{sameLsp}
+use Rattle.table_words.specs.Fours.{fourAtWord}
+use Rattle.spec_calls.specs.PathRules.{heldBy}
+use Rattle.find_connection.proofs.Rows.{Sought, sought-none, sought-turn}
+use Rattle.update_connection.proofs.Turn.{turn-below}
+use borrow.Author.Needs.{needs}
+use Rattle.update_connection.proofs.place_with.Statement.{statement}
+use Rattle.update_connection.proofs.place_with.Tie as tie
+
+abbrev Inv-loop : tie.InvT-loop
+Inv-loop t f x held₀ at₀ j₀ held at j = (j ≤ 4) × Sought (heldPlace (fourAtWord t f)) (sameLsp (heldBy x)) j held at × (at < 4)
+
+abbrev μ-loop : tie.MeasureT-loop
+μ-loop t f x held₀ at₀ j₀ held at j = 4 - j
+
+loop-holds : tie.Need-loop-holds Inv-loop μ-loop
+loop-holds c = (omega arith, sought-none _ _, omega arith)
+
+holds-at-requires : tie.Need-holds-at-requires Inv-loop μ-loop
+holds-at-requires c κs = search needs
+
+select-requires : tie.Need-select-requires Inv-loop μ-loop
+select-requires c κs = search needs
+
+select-requires-2 : tie.Need-select-requires-2 Inv-loop μ-loop
+select-requires-2 c κs = search needs
+
+add-j : tie.Need-add-j Inv-loop μ-loop
+add-j c = search needs
+
+loop-less : tie.Need-loop-less Inv-loop μ-loop
+loop-less c = search needs
+
+loop-again : tie.Need-loop-again Inv-loop μ-loop
+loop-again c =
+    let l = c .before .before .before .before in
+    let i = l .loop .inv in (
+      omega arith,
+      sought-turn _ _ _ (i .1) (c .before .before .holds-at .ensures ∙ sym (has-when _ _ _)) (c .before .select .ensures) (c .select2 .ensures),
+      rw (c .select2 .ensures, c .before .select .ensures) (turn-below (l .loop .held) (c .before .before .holds-at .result) (l .loop .at) (l .loop .j) 4 (i .2) (omega arith)),
+    )
+
+returns : tie.Need-returns Inv-loop μ-loop
+returns c =
+    let l = c .before .loop in
+    let e : l .j ≡ 4 = omega arith in
+    (rw e at (l .inv .1 .place), l .inv .2)
+
+pub place-with-spec : {M : Type 1} → statement M
+place-with-spec =
+    tie.close
+    (tie.spec
+    Inv-loop
+    μ-loop
+    loop-holds
+    holds-at-requires
+    select-requires
+    select-requires-2
+    add-j
+    loop-less
+    loop-again
+    returns)

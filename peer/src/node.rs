@@ -1,0 +1,265 @@
+//! One message: the rule check, the answer, the change of the table in place, the reply.
+
+use crate::message::{be16, be32, read, sum, Kind, Objects, Read};
+use crate::rules::{check, Counts};
+use crate::table::{pair_of, Call, Customer, Place, Table, CALLS};
+
+/// The answer and the reply's length.
+#[inline(always)]
+pub fn handle(table: &mut Table, message: &[u8], reply: &mut [u8]) -> (u8, usize) {
+    match check(table) {
+        Some(counts) => checked(table, &counts, message, reply),
+        None => (1, 0),
+    }
+}
+
+/// From answer 2 on, for a table that keeps the rules.
+#[inline(always)]
+fn checked(table: &mut Table, counts: &Counts, s: &[u8], reply: &mut [u8]) -> (u8, usize) {
+    if reply.len() < 128 {
+        return (2, 0);
+    }
+    let (kind, o) = match read(s) {
+        Read::Fault(answer) => return (answer, 0),
+        Read::Unfit(answer, sender) => return (if customer(table, sender) < 8 { answer } else { 11 }, 0),
+        Read::Message(kind, o) => (kind, o),
+    };
+    let (endpoint, sender) = (be32(s, o.session + 4), be32(s, o.template + 4));
+    let k = customer(table, sender);
+    if k == 8 {
+        return (11, 0);
+    }
+    let (pair, id) = (pair_of(endpoint, sender), u32::from(be16(s, o.session + 8)));
+    match kind {
+        Kind::Open => {
+            let (answer, code) = open(table, counts, k, pair, id, name(s, &o));
+            (answer, notify(table, s, &o, 8, code, reply))
+        }
+        Kind::Close => {
+            let (answer, code) = close(table, pair, id, name(s, &o));
+            (answer, notify(table, s, &o, 9, code, reply))
+        }
+        Kind::Add => match add(table, k, pair, id, connection(s, &o)) {
+            35 => (35, path_err(table, s, &o, 0x0020_0003, reply)),
+            37 => (37, path_err(table, s, &o, 0x0002_0000, reply)),
+            answer => (answer, 0),
+        },
+        Kind::Drop => (drop_connection(table, k, pair, connection(s, &o)), 0),
+    }
+}
+
+/// The customer's place in the roster, 8 where it has none.
+#[inline(always)]
+fn customer(table: &Table, address: u32) -> usize {
+    let listed = &table.customers[..table.listed as usize];
+    listed.iter().position(|one| one.address == address).unwrap_or(8)
+}
+
+/// Each open call of the pair, until one is enough.
+#[inline(always)]
+fn calls_of(table: &Table, pair: u64, mut enough: impl FnMut(usize, &Call) -> bool) {
+    let used = table.used();
+    for (i, call) in table.calls.iter().enumerate() {
+        if call.pair() == pair && used >> i & 1 == 1 && enough(i, call) {
+            return;
+        }
+    }
+}
+
+/// The message's long Call ID.
+#[inline(always)]
+fn name<'a>(s: &'a [u8], o: &Objects) -> &'a [u8] {
+    &s[o.attribute + 8..][..usize::from(s[o.attribute + 7])]
+}
+
+#[inline(always)]
+fn is_named(call: &Call, name: &[u8]) -> bool {
+    call.size as usize == name.len() && call.name[..name.len()] == *name
+}
+
+/// The answer, and error code and value.
+#[inline(always)]
+fn open(table: &mut Table, counts: &Counts, k: usize, pair: u64, id: u32, name: &[u8]) -> (u8, u32) {
+    let (mut known, mut long, mut short) = (false, false, false);
+    calls_of(table, pair, |_, call| {
+        let (a, b) = (call.id == id, is_named(call, name));
+        known |= a & b;
+        short |= a;
+        long |= b;
+        known
+    });
+    if known {
+        return (21, 0);
+    }
+    if long {
+        return (31, 0x0020_0004);
+    }
+    if short {
+        return (30, 0x0020_0001);
+    }
+    let (count, one) = (u32::from(counts.calls[k]), &table.customers[k]);
+    if count == one.limit || count >= one.guarantee && counts.sum == CALLS as u32 {
+        return (34, 0x0002_0000);
+    }
+    let slot = table.used().trailing_ones() as usize;
+    table.occupied[slot / 32] |= 1 << (slot % 32);
+    let call = &mut table.calls[slot];
+    // The rest of a free slot is zeros already.
+    (call.endpoint, call.sender) = (pair as u32, (pair >> 32) as u32);
+    (call.id, call.size) = (id, name.len() as u32);
+    call.name[..name.len()].copy_from_slice(name);
+    (20, 0)
+}
+
+#[inline(always)]
+fn close(table: &mut Table, pair: u64, id: u32, name: &[u8]) -> (u8, u32) {
+    let mut slot = CALLS;
+    calls_of(table, pair, |i, call| {
+        if call.id == id && is_named(call, name) {
+            slot = i;
+        }
+        slot < CALLS
+    });
+    if slot == CALLS {
+        return (33, 0x0020_0003);
+    }
+    if table.calls[slot].places.iter().any(|place| place.taken != 0) {
+        return (32, 0x0020_0002);
+    }
+    table.calls[slot] = Call::FREE;
+    table.occupied[slot / 32] ^= 1 << (slot % 32);
+    (22, 0)
+}
+
+/// The message's connection.
+#[inline(always)]
+fn connection(s: &[u8], o: &Objects) -> Place {
+    Place::new(
+        be16(s, o.session + 10),
+        be32(s, o.session + 12),
+        be16(s, o.template + 10),
+    )
+}
+
+#[inline(always)]
+fn held(places: &[Place; 4], connection: Place) -> Option<usize> {
+    places.iter().position(|place| place.halves() == connection.halves())
+}
+
+/// The customer's place with this connection of Call ID 0.
+#[inline(always)]
+fn held_standalone(customer: &Customer, endpoint: u32, connection: Place) -> Option<usize> {
+    (0..4).find(|&j| customer.endpoints[j] == endpoint && customer.places[j].halves() == connection.halves())
+}
+
+#[inline(always)]
+fn add(table: &mut Table, k: usize, pair: u64, id: u32, connection: Place) -> u8 {
+    let (mut slot, mut under) = (CALLS, None);
+    calls_of(table, pair, |i, call| {
+        if held(&call.places, connection).is_some() {
+            under = Some(call.id);
+        }
+        if call.id == id {
+            slot = i;
+        }
+        under.is_some()
+    });
+    if under.is_none() && held_standalone(&table.customers[k], pair as u32, connection).is_some() {
+        under = Some(0);
+    }
+    if let Some(other) = under {
+        return if other == id { 24 } else { 14 };
+    }
+    if id == 0 {
+        let customer = &mut table.customers[k];
+        let Some(j) = customer.places.iter().position(|place| place.taken == 0) else {
+            return 37;
+        };
+        customer.endpoints[j] = pair as u32;
+        customer.places[j] = connection;
+        return 23;
+    }
+    if slot == CALLS {
+        return 35;
+    }
+    let Some(place) = table.calls[slot].places.iter_mut().find(|place| place.taken == 0) else {
+        return 37;
+    };
+    *place = connection;
+    23
+}
+
+#[inline(always)]
+fn drop_connection(table: &mut Table, k: usize, pair: u64, connection: Place) -> u8 {
+    let mut found = None;
+    calls_of(table, pair, |i, call| {
+        found = held(&call.places, connection).map(|j| (i, j));
+        found.is_some()
+    });
+    if let Some((i, j)) = found {
+        table.calls[i].places[j] = Place::FREE;
+        return 25;
+    }
+    let customer = &mut table.customers[k];
+    match held_standalone(customer, pair as u32, connection) {
+        Some(j) => {
+            customer.endpoints[j] = 0;
+            customer.places[j] = Place::FREE;
+            25
+        }
+        None => 15,
+    }
+}
+
+#[inline(always)]
+fn put32(reply: &mut [u8], at: usize, value: u32) {
+    reply[at..at + 4].copy_from_slice(&value.to_be_bytes());
+}
+
+/// Writes the checksum.
+#[inline(always)]
+fn seal(reply: &mut [u8]) {
+    let checksum = !sum(reply);
+    let checksum = if checksum == 0 { 0xffff } else { checksum };
+    reply[2..4].copy_from_slice(&checksum.to_ne_bytes());
+}
+
+#[inline(always)]
+fn notify(table: &mut Table, s: &[u8], o: &Objects, status: u32, error: u32, reply: &mut [u8]) -> usize {
+    let size = usize::from(be16(s, o.attribute));
+    let n = 80 + size;
+    let r = &mut reply[..n];
+    put32(r, 0, 0x1015_0000);
+    put32(r, 4, 0xff00_0000 | n as u32);
+    put32(r, 8, 0x000c_1801);
+    put32(r, 12, be32(s, o.identifier + 4) & 0x00ff_ffff);
+    r[16..20].copy_from_slice(&s[o.identifier + 8..o.identifier + 12]);
+    put32(r, 20, 0x000c_1701);
+    put32(r, 24, 0x0100_0000 | table.epoch);
+    put32(r, 28, table.next);
+    put32(r, 32, 0x000c_0601);
+    put32(r, 36, table.address);
+    put32(r, 40, error);
+    r[44..60].copy_from_slice(&s[o.session..o.session + 16]);
+    put32(r, 60, 0x0008_c401);
+    put32(r, 64, status);
+    r[68..68 + size].copy_from_slice(&s[o.attribute..o.attribute + size]);
+    r[68 + size..80 + size].copy_from_slice(&s[o.template..o.template + 12]);
+    seal(r);
+    table.next = table.next.wrapping_add(1);
+    n
+}
+
+#[inline(always)]
+fn path_err(table: &Table, s: &[u8], o: &Objects, error: u32, reply: &mut [u8]) -> usize {
+    let r = &mut reply[..48];
+    put32(r, 0, 0x1003_0000);
+    put32(r, 4, 0xff00_0030);
+    r[8..24].copy_from_slice(&s[o.session..o.session + 16]);
+    put32(r, 24, 0x000c_0601);
+    put32(r, 28, table.address);
+    put32(r, 32, error);
+    r[36..48].copy_from_slice(&s[o.template..o.template + 12]);
+    seal(r);
+    48
+}

@@ -1,0 +1,388 @@
+//! Answer 1: every table rule in one pass over the table. Keys (pair and short ID, pair and name, connections) go into
+//! small hash chains on the stack; what met something in its chain is compared exactly afterwards. A table made so that
+//! chains grow long is sorted instead.
+
+use crate::table::{pair_of, Call, Customer, Table, CALLS};
+use std::mem::MaybeUninit;
+
+/// What the pass counted, for the share rule.
+pub struct Counts {
+    pub calls: [u16; 8],
+    pub sum: u32,
+}
+
+/// Chains for connections and for IDs: powers of two.
+const CONNECTION_HEADS: usize = 2048;
+const ID_HEADS: usize = 256;
+/// Keys are numbered from 1.
+const CONNECTION_KEYS: usize = 4 * CALLS + 4 * 8 + 1;
+const ID_KEYS: usize = CALLS + 1;
+
+const K0: u64 = 0x9e37_79b9_7f4a_7c15;
+const K1: u64 = 0xd6e8_feb8_6659_fd93;
+const K2: u64 = 0xa076_1d64_78bd_642f;
+const K3: u64 = 0xe703_7ed1_a0b4_28db;
+
+#[inline(always)]
+fn mix(a: u64, b: u64) -> u64 {
+    let m = u128::from(a).wrapping_mul(u128::from(b));
+    (m as u64) ^ (m >> 64) as u64
+}
+
+/// 32 zeros, then 32 bytes of ones.
+static PAST: [u8; 64] = {
+    let mut past = [0; 64];
+    let mut i = 32;
+    while i < 64 {
+        past[i] = 0xff;
+        i += 1;
+    }
+    past
+};
+
+#[inline(always)]
+unsafe fn word(bytes: *const u8, at: usize) -> u64 {
+    bytes.add(at).cast::<u64>().read_unaligned()
+}
+
+#[inline(always)]
+fn call_is_zero(call: &Call) -> bool {
+    let bytes = (call as *const Call).cast::<u8>();
+    let mut any = 0;
+    for at in (0..size_of::<Call>()).step_by(8) {
+        // SAFETY: a call is a whole number of such words.
+        any |= unsafe { word(bytes, at) };
+    }
+    any == 0
+}
+
+/// Chains: `head[h]` is the last key put there, from 1; `next[key]` the one before it; `met` has the keys that were put
+/// behind another.
+struct Chains<const HEADS: usize, const KEYS: usize> {
+    head: [u16; HEADS],
+    next: [u16; KEYS],
+    met: MaybeUninit<[u16; KEYS]>,
+    count: usize,
+}
+
+impl<const HEADS: usize, const KEYS: usize> Chains<HEADS, KEYS> {
+    /// A hash is brought below HEADS by this shift.
+    const SHIFT: u32 = 64 - HEADS.trailing_zeros();
+
+    #[inline(always)]
+    fn new() -> Self {
+        Chains {
+            head: [0; HEADS],
+            next: [0; KEYS],
+            met: MaybeUninit::uninit(),
+            count: 0,
+        }
+    }
+
+    /// # Safety
+    /// Each key from 1 to KEYS - 1 is put at most once.
+    #[inline(always)]
+    unsafe fn put(&mut self, hash: u64, key: usize) {
+        let head = self.head.as_mut_ptr().add((hash >> Self::SHIFT) as usize);
+        let before = *head;
+        *head = key as u16;
+        if before != 0 {
+            *self.next.as_mut_ptr().add(key) = before;
+            *self.met.as_mut_ptr().cast::<u16>().add(self.count) = key as u16;
+            self.count += 1;
+        }
+    }
+
+    /// Whether two keys are the same; None where the chains are too long.
+    #[inline(always)]
+    fn twice(&self, budget: usize, same: impl Fn(usize, usize) -> bool) -> Option<bool> {
+        let mut left = budget;
+        let next = self.next.as_ptr();
+        for i in 0..self.count {
+            // SAFETY: the first `count` of `met` are keys that were put, and so is what `next` leads to.
+            let key = usize::from(unsafe { *self.met.as_ptr().cast::<u16>().add(i) });
+            let mut other = usize::from(unsafe { *next.add(key) });
+            while other != 0 {
+                if same(key, other) {
+                    return Some(true);
+                }
+                if left == 0 {
+                    return None;
+                }
+                left -= 1;
+                other = usize::from(unsafe { *next.add(other) });
+            }
+        }
+        Some(false)
+    }
+}
+
+/// Which of the eight are the sender, a bit each.
+#[inline(always)]
+fn equal(addresses: &[u32; 8], sender: u32) -> u32 {
+    #[cfg(target_arch = "x86_64")]
+    {
+        use std::arch::x86_64::*;
+        // SAFETY: every x86-64 has these instructions, and both loads lie in the eight.
+        unsafe {
+            let s = _mm_set1_epi32(sender as i32);
+            let a = _mm_cmpeq_epi32(s, _mm_loadu_si128(addresses.as_ptr().cast()));
+            let b = _mm_cmpeq_epi32(s, _mm_loadu_si128(addresses.as_ptr().add(4).cast()));
+            let m = _mm_packs_epi16(_mm_packs_epi32(a, b), _mm_setzero_si128());
+            _mm_movemask_epi8(m) as u32
+        }
+    }
+    #[cfg(not(target_arch = "x86_64"))]
+    {
+        let bits = addresses.iter().enumerate();
+        bits.fold(0, |found, (k, &address)| found | u32::from(address == sender) << k)
+    }
+}
+
+/// The roster's own rules: how many are listed and their addresses, or None where one is broken.
+#[inline(always)]
+fn roster(table: &Table) -> Option<(usize, [u32; 8])> {
+    let listed = table.listed as usize;
+    if listed == 0 {
+        if table.address != 0 || table.epoch != 0 {
+            return None;
+        }
+    } else if listed > 8 || table.epoch >= 1 << 24 {
+        return None;
+    }
+    let mut addresses = [0; 8];
+    let (mut sum, mut bad) = (0u32, false);
+    for (k, customer) in table.customers.iter().enumerate() {
+        if k < listed {
+            bad |= customer.limit == 0 || customer.limit > CALLS as u32 || customer.guarantee > customer.limit;
+            sum = sum.wrapping_add(customer.guarantee);
+            // Those past k are zero and are masked away.
+            bad |= equal(&addresses, customer.address) & ((1 << k) - 1) != 0;
+            addresses[k] = customer.address;
+        } else {
+            bad |= customer.address | customer.guarantee | customer.limit != 0;
+        }
+    }
+    (!bad && sum <= CALLS as u32).then_some((listed, addresses))
+}
+
+/// Bits that neither a connection nor a free place has, in the two halves of a place.
+const EXCESS: (u64, u64) = (0xffff_0000_ffff_fffe, 0xffff_0000_0000_0000);
+
+/// What a connection is known by. Keys are numbered by slot and place, then by customer and place.
+#[inline(always)]
+fn connection(table: &Table, key: usize) -> (u64, u64) {
+    let n = key - 1;
+    if n < 4 * CALLS {
+        let call = &table.calls[n / 4];
+        (call.pair(), call.places[n % 4].number())
+    } else {
+        let (customer, j) = (&table.customers[n / 4 - CALLS], n % 4);
+        let pair = pair_of(customer.endpoints[j], customer.address);
+        (pair, customer.places[j].number())
+    }
+}
+
+/// All rules; None where one is broken.
+#[inline(always)]
+pub fn check(table: &Table) -> Option<Counts> {
+    let (listed, addresses) = roster(table)?;
+    let mask = (1u32 << listed) - 1;
+    let used = table.used();
+    let mut shorts = Chains::<ID_HEADS, ID_KEYS>::new();
+    let mut longs = Chains::<ID_HEADS, ID_KEYS>::new();
+    let mut connections = Chains::<CONNECTION_HEADS, CONNECTION_KEYS>::new();
+    let mut calls = [0u16; 9];
+    // What no rule allows, and all bits of all places.
+    let (mut bad, mut halves) = (0u64, (0u64, 0u64));
+    for (i, call) in table.calls.iter().enumerate() {
+        if used >> i & 1 == 0 {
+            if !call_is_zero(call) {
+                return None;
+            }
+            continue;
+        }
+        let size = call.size as usize;
+        if size.wrapping_sub(1) >= 32 || call.id.wrapping_sub(1) >= 0xffff {
+            return None;
+        }
+        bad |= u64::from(call.refreshed | call.epoch | call.identifier | call.made);
+        // SAFETY: all reads lie within the name or, the size being 1 to 32, within PAST.
+        let name = unsafe {
+            let (name, past) = (call.name.as_ptr(), PAST.as_ptr().add(32 - size));
+            let words = [word(name, 0), word(name, 8), word(name, 16), word(name, 24)];
+            bad |= words[0] & word(past, 0) | words[1] & word(past, 8);
+            bad |= words[2] & word(past, 16) | words[3] & word(past, 24);
+            words
+        };
+        let known = equal(&addresses, call.sender) & mask;
+        calls[(known | 0x100).trailing_zeros() as usize] += 1;
+        let base = mix(call.pair() ^ K0, K1);
+        let short = (base ^ u64::from(call.id)).wrapping_mul(K2);
+        let long = mix(name[0] ^ base, name[1] ^ K2) ^ mix(name[2] ^ K3 ^ size as u64, name[3] ^ base);
+        // SAFETY: each slot is visited once.
+        unsafe {
+            shorts.put(short, i + 1);
+            longs.put(long.wrapping_mul(K0), i + 1);
+        }
+        for (j, place) in call.places.iter().enumerate() {
+            let (low, high) = place.halves();
+            halves = (halves.0 | low, halves.1 | high);
+            if low as u32 != 0 {
+                let hash = (place.number() ^ base).wrapping_mul(K3);
+                // SAFETY: each place is visited once.
+                unsafe { connections.put(hash, 4 * i + j + 1) };
+            } else {
+                bad |= low | high;
+            }
+        }
+    }
+    for (k, customer) in table.customers.iter().enumerate() {
+        for (j, place) in customer.places.iter().enumerate() {
+            let (low, high) = place.halves();
+            halves = (halves.0 | low, halves.1 | high);
+            if low as u32 != 0 {
+                if k >= listed {
+                    return None;
+                }
+                let base = mix(pair_of(customer.endpoints[j], customer.address) ^ K0, K1);
+                let hash = (place.number() ^ base).wrapping_mul(K3);
+                // SAFETY: each place is visited once.
+                unsafe { connections.put(hash, 4 * CALLS + 4 * k + j + 1) };
+            } else {
+                bad |= low | high | u64::from(customer.endpoints[j]);
+            }
+        }
+    }
+    bad |= halves.0 & EXCESS.0 | halves.1 & EXCESS.1;
+    if bad != 0 || calls[8] != 0 {
+        return None;
+    }
+    let sum = share_sum(&table.customers[..listed], &calls)?;
+    let shorts = shorts.twice(4 * CALLS, |a, b| {
+        let (one, other) = (&table.calls[a - 1], &table.calls[b - 1]);
+        one.id == other.id && one.pair() == other.pair()
+    });
+    let longs = longs.twice(4 * CALLS, |a, b| {
+        let (one, other) = (&table.calls[a - 1], &table.calls[b - 1]);
+        one.size == other.size && one.pair() == other.pair() && one.name == other.name
+    });
+    let connections = connections.twice(8 * CALLS, |a, b| connection(table, a) == connection(table, b));
+    let twice = match (shorts, longs, connections) {
+        (Some(short), Some(long), Some(connection)) => short | long | connection,
+        _ => sorted_twice(table),
+    };
+    if twice {
+        return None;
+    }
+    let mut counted = [0; 8];
+    counted.copy_from_slice(&calls[..8]);
+    Some(Counts { calls: counted, sum })
+}
+
+/// S; None where a customer is above its limit, or S above the total.
+#[inline(always)]
+fn share_sum(customers: &[Customer], calls: &[u16; 9]) -> Option<u32> {
+    let mut sum = 0;
+    for (customer, &count) in customers.iter().zip(calls) {
+        let count = u32::from(count);
+        if count > customer.limit {
+            return None;
+        }
+        sum += count.max(customer.guarantee);
+    }
+    (sum <= CALLS as u32).then_some(sum)
+}
+
+/// Whether anything stands twice, by sorting: for tables whose keys were made to meet in few chains.
+#[cold]
+#[inline(never)]
+fn sorted_twice(table: &Table) -> bool {
+    let mut ids = [(0u64, 0u32); CALLS];
+    let mut names = [(0u64, 0u32, [0u8; 32]); CALLS];
+    let mut connections = [(0u64, 0u64); CONNECTION_KEYS];
+    let (mut n, mut m) = (0, 0);
+    for (i, call) in table.calls.iter().enumerate() {
+        if table.used() >> i & 1 == 0 {
+            continue;
+        }
+        ids[n] = (call.pair(), call.id);
+        names[n] = (call.pair(), call.size, call.name);
+        n += 1;
+        for place in call.places.iter().filter(|place| place.taken != 0) {
+            connections[m] = (call.pair(), place.number());
+            m += 1;
+        }
+    }
+    for customer in &table.customers {
+        for (place, &endpoint) in customer.places.iter().zip(&customer.endpoints) {
+            if place.taken != 0 {
+                connections[m] = (pair_of(endpoint, customer.address), place.number());
+                m += 1;
+            }
+        }
+    }
+    let (ids, names, connections) = (&mut ids[..n], &mut names[..n], &mut connections[..m]);
+    ids.sort_unstable();
+    names.sort_unstable();
+    connections.sort_unstable();
+    beside(ids) || beside(names) || beside(connections)
+}
+
+fn beside<T: PartialEq>(sorted: &[T]) -> bool {
+    sorted.windows(2).any(|two| two[0] == two[1])
+}
+
+#[cfg(test)]
+mod tests {
+    use super::*;
+    use crate::table::Place;
+    use crate::{rules_hold, Words};
+
+    /// The x with x * k = 1.
+    fn inverse(k: u64) -> u64 {
+        let mut x = k;
+        for _ in 0..6 {
+            x = x.wrapping_mul(2u64.wrapping_sub(k.wrapping_mul(x)));
+        }
+        x
+    }
+
+    /// A full table of one pair whose 256 connections all meet in one chain.
+    fn all_meet() -> Words {
+        let mut words = [0; 2238];
+        let table = Table::of_mut(&mut words);
+        (table.address, table.epoch, table.next, table.listed) = (9, 7, 1, 1);
+        (table.customers[0].address, table.customers[0].limit) = (5, 64);
+        table.occupied = [u32::MAX; 2];
+        for (i, call) in table.calls.iter_mut().enumerate() {
+            (call.endpoint, call.sender) = (6, 5);
+            (call.id, call.size, call.name[0]) = (1 + i as u32, 1, i as u8);
+            let base = mix(call.pair() ^ K0, K1);
+            for (j, place) in call.places.iter_mut().enumerate() {
+                let hash = 0x155 << 53 | (4 * i + j) as u64;
+                let number = hash.wrapping_mul(inverse(K3)) ^ base;
+                // What `number` puts together, taken apart.
+                *place = Place::new(number as u16, (number >> 16) as u32, (number >> 48) as u16);
+                assert_eq!(place.number(), number);
+            }
+        }
+        words
+    }
+
+    #[test]
+    fn tables_made_to_meet_are_sorted() {
+        let words = all_meet();
+        assert!(rules_hold(&words));
+        let mut broken = words;
+        let table = Table::of_mut(&mut broken);
+        table.calls[63].places[3] = table.calls[5].places[1];
+        assert!(!rules_hold(&broken));
+        let mut broken = words;
+        Table::of_mut(&mut broken).calls[63].id = 1;
+        assert!(!rules_hold(&broken));
+        let mut broken = words;
+        Table::of_mut(&mut broken).calls[63].name[0] = 0;
+        assert!(!rules_hold(&broken));
+    }
+}
