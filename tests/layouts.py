@@ -1,6 +1,7 @@
 """Rosters, messages, checkpoints and frames, built from the layouts of documents 01 and 02 (request A13).
 
-The node's own address is END; every message goes to it. An extended tunnel ID is the sender's address.
+The node's own address is END; every message goes to it. An extended tunnel ID is the sender's address. A checkpoint's
+records can have others.
 """
 import struct
 
@@ -87,15 +88,15 @@ def checkpoint(calls, connections, form=1):
     return head + b"".join(calls) + b"".join(connections)
 
 
-def call_record(slot, call, sender, name):
+def call_record(slot, call, sender, name, endpoint=END):
     """no made mark; last refresh, request epoch and request identifier 0"""
-    ids = struct.pack(">BH", slot, call) + address(END) + address(sender)
+    ids = struct.pack(">BH", slot, call) + address(endpoint) + address(sender)
     return ids + bytes([len(name)]) + name.ljust(32, b"\0") + bytes(4 + 3 + 4)
 
 
-def connection_record(call, sender, tunnel, lsp):
-    front = address(END) + struct.pack(">HH", call, tunnel)
-    return front + address(sender) + address(sender) + struct.pack(">H", lsp)
+def connection_record(call, sender, tunnel, lsp, endpoint=END, extended=None):
+    front = address(endpoint) + struct.pack(">HH", call, tunnel)
+    return front + address(extended or sender) + address(sender) + struct.pack(">H", lsp)
 
 
 # Frames.

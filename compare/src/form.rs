@@ -23,14 +23,14 @@ pub struct Request<'a> {
 }
 
 /// The objects of 01's table, in its order, MESSAGE_ID_ACK left out: class, C-Type.
-const OBJECTS: [(u8, u8); 6] = [(1, 7), (6, 1), (11, 7), (23, 1), (196, 1), (207, 7)];
+pub const OBJECTS: [(u8, u8); 6] = [(1, 7), (6, 1), (11, 7), (23, 1), (196, 1), (207, 7)];
 const SESSION: usize = 0;
 const ERROR_SPEC: usize = 1;
 const SENDER_TEMPLATE: usize = 2;
 const ADMIN_STATUS: usize = 4;
 const SESSION_ATTRIBUTE: usize = 5;
 
-const SKIPPED: [u8; 16] = [0, 3, 4, 5, 12, 13, 14, 19, 20, 21, 24, 34, 35, 36, 37, 133];
+pub const SKIPPED: [u8; 16] = [0, 3, 4, 5, 12, 13, 14, 19, 20, 21, 24, 34, 35, 36, 37, 133];
 
 /// The bodies found of each object.
 type Found<'a> = [Vec<&'a [u8]>; 6];

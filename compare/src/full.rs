@@ -69,7 +69,8 @@ fn fill(tables: &mut Tables, sender: u32, random: &mut Random) -> Result<(), Str
     Ok(())
 }
 
-fn send(tables: &mut Tables, message: &[u8], due: u8, random: &mut Random) -> Result<(), String> {
+/// A message to both, which has to get this answer.
+pub(crate) fn send(tables: &mut Tables, message: &[u8], due: u8, random: &mut Random) -> Result<(), String> {
     let done = both::message((&tables.first, &tables.second), message, 128, random);
     let done = done.map_err(|what| format!("{what}\nmessage {}", hex(message)))?;
     if done.answer != due {

@@ -8,6 +8,7 @@ pub mod captures;
 pub mod change;
 pub mod checkpoints;
 pub mod checksums;
+pub mod classes;
 pub mod coverage;
 pub mod damage;
 pub mod difference;

@@ -1,8 +1,9 @@
-//! The whole comparison: rosters, streams of messages, broken tables, every word of some tables, captures.
+//! The whole comparison: rosters, streams of messages, every class, broken tables, every word of some tables, captures.
 
 use crate::both;
 use crate::breaks::{self, Break};
 use crate::captures;
+use crate::classes;
 use crate::coverage::SITUATIONS;
 use crate::form;
 use crate::full::Full;
@@ -29,6 +30,8 @@ pub fn all(seed: u64, messages: u64, captured: Option<&str>) -> Result<Tally, St
     let mut random = Random::of_part(seed, u64::MAX);
     rosters(seed, &mut random, &mut tally)?;
     streams(seed, messages, &mut tally)?;
+    classes::run(0..=u8::MAX, &mut Random::of_part(seed, u64::MAX - 1), &mut tally)
+        .map_err(|what| format!("seed {seed}, {what}"))?;
     full_tables(seed, &mut random, &mut tally)?;
     every_word(seed, &mut random, &mut tally)?;
     if let Some(text) = captured {

@@ -1,8 +1,38 @@
 //! The second program behind the first one's C interface, to test the comparison without the library.
 
+#[cfg(test)]
+use crate::damage;
 use crate::first::{CheckpointRead, CheckpointWritten, MessageReply};
 use second::table::Table;
+#[cfg(test)]
+use std::cell::Cell;
 use std::slice;
+
+#[cfg(test)]
+thread_local! {
+    static REFUSED: Cell<Option<u8>> = const { Cell::new(None) };
+}
+
+/// From now on, in this thread, the stand-in refuses this class too: a fault that the comparison has to find.
+#[cfg(test)]
+pub(crate) fn refuse(class: u8) {
+    REFUSED.set(Some(class));
+}
+
+#[cfg(test)]
+fn refused(message: &[u8]) -> bool {
+    let classes = damage::objects(message)
+        .into_iter()
+        .map(|object| message[object.start + 2]);
+    REFUSED
+        .get()
+        .is_some_and(|refused| classes.into_iter().any(|class| class == refused))
+}
+
+#[cfg(not(test))]
+fn refused(_: &[u8]) -> bool {
+    false
+}
 
 /// # Safety
 /// As in chaffmoor.h: the pointers are good, one of them for its length, and do not overlap.
@@ -24,6 +54,9 @@ unsafe extern "C" fn chaffmoor_handle(
     reply_length: usize,
 ) -> MessageReply {
     let message = slice::from_raw_parts(message, message_length);
+    if refused(message) {
+        return MessageReply { answer: 8, length: 0 };
+    }
     let reply = slice::from_raw_parts_mut(reply, reply_length);
     let (answer, length, after) = second::handle(&*table, message, reply);
     *table = after;

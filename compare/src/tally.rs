@@ -1,5 +1,6 @@
 //! What the run has seen so far, and what it has to have seen by its end.
 
+use crate::classes::Classes;
 use crate::damage::DAMAGES;
 use crate::intent::Intent;
 use crate::layout::WORDS;
@@ -30,6 +31,7 @@ pub struct Tally {
     /// How often each word of a table was changed.
     words: Vec<u64>,
     words_refused: u64,
+    pub classes: Classes,
     pub compared: u64,
     pub changed: u64,
     pub changed_refused: u64,
@@ -53,6 +55,7 @@ impl Tally {
             outside: REFUSED.iter().chain(KEPT).map(|&name| (name, 0)).collect(),
             words: vec![0; WORDS],
             words_refused: 0,
+            classes: Classes::default(),
             compared: 0,
             changed: 0,
             changed_refused: 0,
@@ -131,6 +134,10 @@ impl Tally {
         let (changed, refused) = (self.word_total(), self.words_refused);
         let least = self.words.iter().min().expect("a table has words");
         println!("single words changed: {changed}, each at least {least} times, of which {refused} were answered 1");
+        println!(
+            "objects by class, message, place and fault: {} kinds",
+            self.classes.count()
+        );
     }
 
     /// What the run should have reached and has not.
@@ -159,6 +166,7 @@ impl Tally {
                 lacking.push(format!("buffer length {length}: never came"));
             }
         }
+        lacking.extend(self.classes.lacking());
         lacking
     }
 }

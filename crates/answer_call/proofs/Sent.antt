@@ -11,11 +11,11 @@ use Rattle.table.specs.Lists.{Ids}
 use Rattle.answers.specs.declared.answer.Answer.{Answer}
 use Rattle.spec_changes.specs.Calls.{opened}
 use Rattle.outcomes.specs.declared.outcome.Outcome.{Outcome}
-use Rattle.answer_call.specs.Notified.{Notified, notifyOf}
+use Rattle.answer_call.specs.Notified.{Notified, replyBytes}
 
 pub opened-sent : (t : Table) (ids : Ids) (s : List ℕ) (q : CallRequest) (status : ℕ) (a : Answer) (buffer : List ℕ) (r : Outcome) (after : Table) (exit : List ℕ)
     → Notified (opened t ids) s q status a buffer r after exit
-    → (r .length ≡ length (notifyOf t s q status a)) × (exit ≡ atFront (notifyOf t s q status a) buffer)
+    → (r .length ≡ length (replyBytes t s q status a)) × (exit ≡ atFront (replyBytes t s q status a) buffer)
 unfolding opened
 opened-sent t ids s q status a buffer r after exit n = (n .length, n .reply)
 

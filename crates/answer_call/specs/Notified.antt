@@ -12,11 +12,11 @@ use Rattle.spec_changes.specs.Calls.{identifierTaken}
 use Rattle.spec_calls.specs.Handling.{ownId, notifyFor}
 use Rattle.outcomes.specs.declared.outcome.Outcome.{Outcome}
 
-abbrev pub notifyOf : Table → List ℕ → CallRequest → ℕ → Answer → List ℕ
-notifyOf t s q status a = notifyBytes s (notifyFor (t .address) (ownId t) q status a)
+abbrev pub replyBytes : Table → List ℕ → CallRequest → ℕ → Answer → List ℕ
+replyBytes t s q status a = notifyBytes s (notifyFor (t .address) (ownId t) q status a)
 
 pub record Notified (t : Table) (s : List ℕ) (q : CallRequest) (status : ℕ) (a : Answer) (buffer : List ℕ) (r : Outcome) (after : Table) (exit : List ℕ) : Type 0 where
   pub answer : r .answer ≡ a
-  pub length : r .length ≡ length (notifyOf t s q status a)
+  pub length : r .length ≡ length (replyBytes t s q status a)
   pub table : after ≡ identifierTaken t
-  pub reply : exit ≡ atFront (notifyOf t s q status a) buffer
+  pub reply : exit ≡ atFront (replyBytes t s q status a) buffer

@@ -5,8 +5,9 @@ ghost use Prim.Native.Nat.{_≤_};
 ghost use lib.ListN.{length};
 ghost use Rattle.messages.specs.Inside.{CallInside};
 ghost use Rattle.messages.specs.declared.message.Message.the-variants.{Open, Close};
+ghost use Rattle.reply_objects.specs.Buffer.{leastBuffer};
 ghost use Rattle.table.specs.Lists.{roster};
-ghost use Rattle.table.specs.Share.{listed};
+ghost use Rattle.table.specs.Share.{isListed};
 ghost use Rattle.table.specs.Rules.{rulesHold};
 ghost use Rattle.table.specs.Words.{tableOf};
 ghost use Rattle.outcomes.specs.Outcomes.{handedBack, ruled};
@@ -40,7 +41,7 @@ fn notified(
     a: Answer,
     reply: &mut [u8],
 ) -> Outcome
-    requires { ⌜ CallInside (now msg) q × (128 ≤ length (now reply)) ⌝ }
+    requires { ⌜ CallInside (now msg) q × (leastBuffer ≤ length (now reply)) ⌝ }
     ensures { λ r. ⌜ Notified (tableOf (now (t .entry))) (now (msg .entry)) q status a (now (reply .entry)) r (tableOf (now (t .exit))) (now (reply .exit)) ⌝ }
 {
     let own = MessageId {
@@ -55,7 +56,7 @@ fn notified(
 
 // 21, 31, 30, 34, 20. The rules hold and the sender is listed, so that a call that may be opened has a free slot.
 pub fn open_call(t: &mut Words, msg: &[u8], q: CallRequest, reply: &mut [u8]) -> Outcome
-    requires { ⌜ (rulesHold (tableOf (now t)) ≡ true) × (listed (roster (tableOf (now t))) (q .sender) ≡ true) × CallInside (now msg) q × (128 ≤ length (now reply)) ⌝ }
+    requires { ⌜ (rulesHold (tableOf (now t)) ≡ true) × (isListed (roster (tableOf (now t))) (q .sender) ≡ true) × CallInside (now msg) q × (leastBuffer ≤ length (now reply)) ⌝ }
     ensures { λ r. ⌜ handedBack r (tableOf (now (t .exit))) (now (reply .exit)) ≡ ruled (tableOf (now (t .entry))) (now (msg .entry)) (now (reply .entry)) (Open q) ⌝ }
 {
     let k = look_up(t, msg, q);
@@ -78,7 +79,7 @@ pub fn open_call(t: &mut Words, msg: &[u8], q: CallRequest, reply: &mut [u8]) ->
 
 // 33, 32, 22.
 pub fn close_call(t: &mut Words, msg: &[u8], q: CallRequest, reply: &mut [u8]) -> Outcome
-    requires { ⌜ (rulesHold (tableOf (now t)) ≡ true) × CallInside (now msg) q × (128 ≤ length (now reply)) ⌝ }
+    requires { ⌜ (rulesHold (tableOf (now t)) ≡ true) × CallInside (now msg) q × (leastBuffer ≤ length (now reply)) ⌝ }
     ensures { λ r. ⌜ handedBack r (tableOf (now (t .exit))) (now (reply .exit)) ≡ ruled (tableOf (now (t .entry))) (now (msg .entry)) (now (reply .entry)) (Close q) ⌝ }
 {
     let k = look_up(t, msg, q);

@@ -8,19 +8,19 @@ use Rattle.answers.specs.declared.answer.Answer.{Answer}
 use Rattle.answers.specs.declared.answer.Answer.the-variants.{TableBroken, BufferTooSmall, Malformed, SenderNotListed, UnderOtherCall, NotHeld, CallOpened, CallAlreadyOpen, CallClosed, ConnectionAdded, ConnectionAlreadyHeld, ConnectionRemoved, CallIdContention, DuplicateCall, ConnectionsStillExist, UnknownCall, NoShare, PathUnknownCall, NoPlaceLeft}
 use Rattle.answers.specs.declared.answer.Reply.{Reply}
 use Rattle.answers.specs.declared.answer.Reply.the-variants.{Nothing, Notify, PathErr}
-use Rattle.answers.specs.declared.answer.Row.{Row}
+use Rattle.answers.specs.declared.answer.AnswerRow.{AnswerRow}
 
 -- nothing is sent; a Notify, a PathErr is sent, with this error code and value
-abbrev pub noReply : ℕ → Row
+abbrev pub noReply : ℕ → AnswerRow
 noReply number = record { number = number; reply = Nothing; code = 0; value = 0 }
 
-abbrev pub byNotify : ℕ → ℕ → ℕ → Row
+abbrev pub byNotify : ℕ → ℕ → ℕ → AnswerRow
 byNotify number code value = record { number = number; reply = Notify; code = code; value = value }
 
-abbrev pub byPathErr : ℕ → ℕ → ℕ → Row
+abbrev pub byPathErr : ℕ → ℕ → ℕ → AnswerRow
 byPathErr number code value = record { number = number; reply = PathErr; code = code; value = value }
 
-abbrev pub rowOf : Answer → Row
+abbrev pub rowOf : Answer → AnswerRow
 rowOf TableBroken = noReply 1
 rowOf BufferTooSmall = noReply 2
 rowOf (Malformed fault) = noReply (faultNumber fault)

@@ -46,17 +46,17 @@ pub enum Reply {
 
 // A row of document 01's table of answers: the number, what is sent, and the error code and value that it carries, 0
 // and 0 on success.
-pub struct Row {
+pub struct AnswerRow {
     pub number: u8,
     pub reply: Reply,
     pub code: u8,
     pub value: u16,
 }
 
-fn no_reply(number: u8) -> Row
+fn no_reply(number: u8) -> AnswerRow
     ensures { λ r. ⌜ r ≡ noReply number ⌝ }
 {
-    Row {
+    AnswerRow {
         number,
         reply: Reply::Nothing,
         code: 0,
@@ -64,10 +64,10 @@ fn no_reply(number: u8) -> Row
     }
 }
 
-fn by_notify(number: u8, code: u8, value: u16) -> Row
+fn by_notify(number: u8, code: u8, value: u16) -> AnswerRow
     ensures { λ r. ⌜ r ≡ byNotify number code value ⌝ }
 {
-    Row {
+    AnswerRow {
         number,
         reply: Reply::Notify,
         code,
@@ -75,10 +75,10 @@ fn by_notify(number: u8, code: u8, value: u16) -> Row
     }
 }
 
-fn by_path_err(number: u8, code: u8, value: u16) -> Row
+fn by_path_err(number: u8, code: u8, value: u16) -> AnswerRow
     ensures { λ r. ⌜ r ≡ byPathErr number code value ⌝ }
 {
-    Row {
+    AnswerRow {
         number,
         reply: Reply::PathErr,
         code,
@@ -86,7 +86,7 @@ fn by_path_err(number: u8, code: u8, value: u16) -> Row
     }
 }
 
-pub fn row_of(a: Answer) -> Row
+pub fn row_of(a: Answer) -> AnswerRow
     ensures { λ r. ⌜ r ≡ rowOf a ⌝ }
 {
     match a {

@@ -1,10 +1,10 @@
 -- The rows hold: the checker reads their checkpoints through the definitions.
 -- Assumes nothing.
-use mathlib.Core.Path.{_≡_, refl}
-use mathlib.Core.List.{map}
+use mathlib.Core.Path.{refl}
 use Rattle.numbers.specs.Buffer.{atFront}
 use Rattle.numbers.specs.Search.{zerosAt}
-use Rattle.lists.specs.Below.{when, listIf, below, everyBelow, firstBelow}
+use Rattle.lists.specs.Below.{elementIf, listIf, below, everyBelow, firstBelow}
+use Rattle.table.specs.Word.{withUsed}
 use Rattle.table.specs.Zeros.{noCall, noCustomer, emptyTable}
 use Rattle.table.specs.Share.{S}
 use Rattle.table.specs.Rules.{badShare, acceptable, rosterHolds, sameBytes, sameShort, sameLong, validIds, sameLsp, placeClear, placeValid, callFreeClear, callClear, customerFreeClear, customerClear, rulesHold}
@@ -12,8 +12,8 @@ use Rattle.table.specs.Roster.{badForm, recordsAnswer, rosterAnswer, customersF
 use Rattle.spec_changes.specs.Connections.{addedUnder, addedStandalone, added}
 use Rattle.spec_checkpoint.specs.Salvage.{soundAlone, namedBy, keptByLongId, callFits, withCalls, connectionFits, withConnections, salvaged}
 use Rattle.spec_checkpoint.specs.Restored.{badSize, fromCheckpoint, restored}
-use Rattle.checkpoint_cases.specs.Twins.{rows, read, expected}
+use Rattle.checkpoint_cases.specs.Twins.{rows, RowsHold}
 
-pub rows-hold : map read rows ≡ map expected rows
-unfolding rows atFront zerosAt when listIf below everyBelow firstBelow noCall noCustomer emptyTable S badShare acceptable rosterHolds sameBytes sameShort sameLong validIds sameLsp placeClear placeValid callFreeClear callClear customerFreeClear customerClear rulesHold badForm recordsAnswer rosterAnswer customersFrom freshTable tableFor addedUnder addedStandalone added soundAlone namedBy keptByLongId callFits withCalls connectionFits withConnections salvaged badSize fromCheckpoint restored
+pub rows-hold : RowsHold
+unfolding rows withUsed atFront zerosAt elementIf listIf below everyBelow firstBelow noCall noCustomer emptyTable S badShare acceptable rosterHolds sameBytes sameShort sameLong validIds sameLsp placeClear placeValid callFreeClear callClear customerFreeClear customerClear rulesHold badForm recordsAnswer rosterAnswer customersFrom freshTable tableFor addedUnder addedStandalone added soundAlone namedBy keptByLongId callFits withCalls connectionFits withConnections salvaged badSize fromCheckpoint restored
 rows-hold = refl

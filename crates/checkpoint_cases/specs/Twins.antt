@@ -1,6 +1,7 @@
 -- One call recorded twice, in two slots, as on the night that the project began with, and what reading such a
 -- checkpoint gives (02, A13: the right checkpoint is kept).
 use Prim.Native.Nat.{ℕ}
+use mathlib.Core.Path.{_≡_}
 use mathlib.Core.List.{List, [], _∷_, _++_, map}
 use mathlib.Core.Bool.{Bool, true, false}
 use lib.ListN.{length}
@@ -11,7 +12,7 @@ use Rattle.spec_checkpoint.specs.Layout.{callBytes, connectionBytes, joined, he
 use Rattle.spec_checkpoint.specs.Restored.{Restored, restored}
 
 -- what a reading gives: its answer, the records dropped, the slots in use, and the Call ID of each connection held
-pub record Outcome : Type 0 where
+pub record ReadingResult : Type 0 where
   pub answer : ℕ
   pub calls : ℕ
   pub connections : ℕ
@@ -19,10 +20,10 @@ pub record Outcome : Type 0 where
   pub held : List ℕ
 
 -- a checkpoint's bytes, plain (false) or with salvage
-pub record Row : Type 0 where
+pub record ReadingCase : Type 0 where
   pub salvage : Bool
   pub checkpoint : List ℕ
-  pub outcome : Outcome
+  pub outcome : ReadingResult
 
 -- X, 10.0.0.1, with guarantee 1 and limit 2
 abbrev X : ℕ
@@ -49,7 +50,7 @@ connection short tunnel = record { call = short; lsp = record { endpoint = end; 
 abbrev checkpointWith : ℕ → ℕ → List Held → List ℕ
 checkpointWith first second lit = headBytes 2 (length lit) ++ twins first second ++ joined connectionBytes lit
 
-unfoldable pub rows : List Row
+unfoldable pub rows : List ReadingCase
 rows =
     -- the retry went into a second slot: the call stands once, with both its connections
     record {
@@ -77,7 +78,7 @@ rows =
     }
     ∷ []
 
-abbrev outcomeOf : Restored → Outcome
+abbrev outcomeOf : Restored → ReadingResult
 outcomeOf f = record {
   answer = f .answer;
   calls = f .calls;
@@ -86,8 +87,12 @@ outcomeOf f = record {
   held = map (λ x. x .call) (held (f .table));
 }
 
-abbrev pub read : Row → Outcome
+abbrev pub read : ReadingCase → ReadingResult
 read x = outcomeOf (restored (x .salvage) rosterBytes (x .checkpoint))
 
-abbrev pub expected : Row → Outcome
+abbrev pub expected : ReadingCase → ReadingResult
 expected x = x .outcome
+
+-- the definitions give what each row says
+abbrev pub RowsHold : Type 0
+RowsHold = map read rows ≡ map expected rows

@@ -1,2 +1,2 @@
-// Checkpoints with one call recorded twice: a table of rows, in specs/, read through the definitions by the checker, in
-// proofs/.
+// Checkpoints with one call recorded twice, and one copy byte by byte: rows in specs/, written and read through the
+// definitions by the checker, in proofs/.

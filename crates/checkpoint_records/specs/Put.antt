@@ -12,7 +12,7 @@ pub record Put (bytes : List ℕ) (r : ℕ) (before after : List ℕ) : Type 0 w
   pub is : after ≡ atFront bytes before
 
 -- a call whose numbers fit their bits in a record: a Call ID of 16, a mark of 1, a length of 7
-pub record Writable (c : Call) : Type 0 where
+pub record CallFields (c : Call) : Type 0 where
   pub id : c .id < 0x10000
   pub made : c .made < 2
   pub size : c .size < 128

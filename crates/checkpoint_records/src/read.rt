@@ -7,6 +7,7 @@ ghost use Rattle.spec_calls.specs.PathRules.{heldBy};
 ghost use Rattle.spec_checkpoint.specs.Layout.{callRecord, heldAtByte};
 use lists::to_usize;
 use messages::message::Connection;
+use messages::message::Lsp;
 use numbers::big_endian::get16;
 use numbers::big_endian::get24;
 use numbers::big_endian::get32;
@@ -48,18 +49,21 @@ pub fn record_words(s: &[u8], i: usize) -> [u32; 32]
     call_words(head, &name)
 }
 
-// A connection's record has no objects of a message: those parts are empty.
+// A connection's record. It has no objects of a message: those parts are empty.
 pub fn connection_record(s: &[u8], at: usize) -> Connection
     requires { ⌜ at + 18 ≤ length (now s) ⌝ }
-    ensures { λ r. ⌜ heldBy r ≡ heldAtByte (now (s .entry)) at ⌝ }
+    ensures { λ r. ⌜ (heldBy r ≡ heldAtByte (now (s .entry)) at) × (r .session ≡ record { at = 0; size = 0 }) × (r .template ≡ record { at = 0; size = 0 }) ⌝ }
 {
-    Connection {
+    let lsp = Lsp {
         endpoint: get32(s, at),
-        sender: get32(s, at + 12),
-        call: CallId(get16(s, at + 4)),
         tunnel: TunnelId(get16(s, at + 6)),
         extended: get32(s, at + 8),
+        sender: get32(s, at + 12),
         lsp: LspId(get16(s, at + 16)),
+    };
+    Connection {
+        call: CallId(get16(s, at + 4)),
+        lsp,
         session: Part { at: 0, size: 0 },
         template: Part { at: 0, size: 0 },
     }

@@ -10,7 +10,7 @@ ghost use Rattle.table.specs.Total.{total};
 ghost use Rattle.table.specs.Lists.{callAt};
 ghost use Rattle.table.specs.Words.{tableOf};
 ghost use Rattle.spec_checkpoint.specs.Layout.{headBytes, callBytes, connectionBytes};
-ghost use Rattle.checkpoint_records.specs.Put.{Put, Writable};
+ghost use Rattle.checkpoint_records.specs.Put.{Put, CallFields};
 use numbers::big_endian::put8;
 use numbers::big_endian::put16;
 use numbers::big_endian::put24;
@@ -78,7 +78,7 @@ fn put_behind_name(out: &mut [u8], c: CallHead) -> usize
 
 // The record of a slot's call.
 pub fn put_call(out: &mut [u8], t: &Words, i: usize) -> usize
-    requires { ⌜ (i < total) × Writable (callAt (tableOf (now t)) i) × (55 ≤ length (now out)) ⌝ }
+    requires { ⌜ (i < total) × CallFields (callAt (tableOf (now t)) i) × (55 ≤ length (now out)) ⌝ }
     ensures { λ r. ⌜ Put (callBytes i (callAt (tableOf (now (t .entry))) i)) r (now (out .entry)) (now (out .exit)) ⌝ }
 {
     let c = call_head(t, i);

@@ -6,14 +6,14 @@ use mathlib.Core.List.{List, [], _∷_}
 use mathlib.Core.Bool.{Bool, true, false, cond, _&&_, and-false}
 use lib.ListN.{set, getD}
 use Rattle.table.specs.Table.{Call, Table}
-use Rattle.table.specs.Word.{isUsed, flipped}
+use Rattle.table.specs.Word.{isUsed, withUsed}
 use Rattle.table.specs.Lists.{callAt}
 use Rattle.table.specs.Rules.{rulesHold}
 use Rattle.table.specs.Stores.{withSlot, withOccupied}
 use Rattle.spec_checkpoint.specs.Layout.{Slotted}
 use Rattle.spec_checkpoint.specs.Salvage.{placed, callFits}
 
-pub placed-by : (t u v : Table) (r : Slotted) (slot occupied word : ℕ) (c : Call) → slot ≡ r .slot → occupied ≡ t .occupied → word ≡ flipped occupied slot → c ≡ r .call
+pub placed-by : (t u v : Table) (r : Slotted) (slot occupied word : ℕ) (c : Call) → slot ≡ r .slot → occupied ≡ t .occupied → word ≡ withUsed occupied slot → c ≡ r .call
     → u ≡ withSlot t (t .occupied) slot c → v ≡ withOccupied u word → v ≡ placed t r
 placed-by t u v r slot occupied word c s o w e f g = rw (g, f, w, o, e, s)
 

@@ -12,6 +12,7 @@ use find_connection::standalone::look_standalone;
 use find_connection::under::look_under;
 use messages::message::Connection;
 use table::layout::Words;
+use table_words::ids::is_no_call;
 use update_connection::add_standalone;
 use update_connection::add_under;
 use update_connection::customer_of;
@@ -30,19 +31,19 @@ fn has_room(under: usize, standalone: usize) -> bool
 pub fn with_connection(t: &mut Words, x: Connection)
     ensures { λ _. ⌜ tableOf (now (t .exit)) ≡ cond (connectionFits (tableOf (now (t .entry))) (heldBy x)) (added (tableOf (now (t .entry))) (heldBy x)) (tableOf (now (t .entry))) ⌝ }
 {
-    let m = listing_of(t, x.sender);
+    let m = listing_of(t, x.lsp.sender);
     let u = look_under(t, x);
     let l = look_standalone(t, x);
-    let none = x.call.0 == 0;
+    let none = is_no_call(x.call);
     let fits = m.known & !(u.held | l.held) & !(!none & !u.known) & has_room(u.four, l.four);
     if !fits {
         return;
     }
     if none {
-        let k = customer_of(t, x.sender);
-        add_standalone(t, k, x);
+        let k = customer_of(t, x.lsp.sender);
+        add_standalone(t, k, x.lsp);
         return;
     }
     let slot = u.slot;
-    add_under(t, slot, x)
+    add_under(t, slot, x.lsp)
 }

@@ -15,18 +15,18 @@ use rules::rules_hold;
 use table::layout::SLOTS;
 use table::layout::Words;
 use table::word::is_used;
+use table::word::with_used;
 use table_words::calls::put_slot;
 use table_words::calls::slot_words;
 use table_words::head::occupied;
 use table_words::head::set_occupied;
-use update_call::slots::flip;
 
 // Record i's call in the slot that it names, one of the table's.
 fn place(t: &mut Words, s: &[u8], i: usize, slot: usize)
     requires { ⌜ (4 + 55 * i + 55 ≤ length (now s)) × (slot ≡ callRecord (now s) i .slot) × (slot < total) ⌝ }
     ensures { λ _. ⌜ tableOf (now (t .exit)) ≡ placed (tableOf (now (t .entry))) (callRecord (now (s .entry)) i) ⌝ }
 {
-    let word = flip(occupied(t), slot);
+    let word = with_used(occupied(t), slot);
     let call = record_words(s, i);
     put_slot(t, slot, &call);
     set_occupied(t, word)

@@ -8,7 +8,7 @@ use mathlib.Core.List.{List, [], _∷_, _++_, append-assoc}
 use lib.Dec.{ltb}
 use lib.ListN.{length, length-append}
 use borrow.Author.Tests.{ltb-true, eq-eqb, ne-eqb}
-use Rattle.lists.specs.Below.{when, listIf, below}
+use Rattle.lists.specs.Below.{elementIf, listIf, below}
 use Rattle.lists.proofs.Below.{every-at}
 use Rattle.lists.proofs.Tests.{both}
 use Rattle.table.specs.Table.{Place, Table}
@@ -24,7 +24,7 @@ use Rattle.spec_changes.proofs.Valid.{ids-named}
 use Rattle.spec_checkpoint.proofs.Codec.{call-size, unused}
 use Rattle.spec_checkpoint.proofs.Fours.{under-valid, standalone-valid}
 use Rattle.spec_checkpoint.specs.Layout.{callBytes, connectionBytes}
-use Rattle.checkpoint_records.specs.Put.{Put, Writable}
+use Rattle.checkpoint_records.specs.Put.{Put, CallFields}
 use Rattle.checkpoint_records.proofs.Behind.{name-long}
 use Rattle.checkpoint_write.specs.Bytes.{callsBytes, heldBytes, FourFits}
 use Rattle.checkpoint_write.proofs.Grown.{front-none}
@@ -43,14 +43,14 @@ list-if-nothing false l e = refl
 
 -- ---- calls
 
-one-block : {A : Type 0} (b : Bool) (l : List ℕ) (a : A) → length l ≡ 55 → length (listIf b l) ≡ 55 * length (when b a)
-unfolding listIf when
+one-block : {A : Type 0} (b : Bool) (l : List ℕ) (a : A) → length l ≡ 55 → length (listIf b l) ≡ 55 * length (elementIf b a)
+unfolding listIf elementIf
 one-block true l a e = e
 one-block false l a e = refl
 
 -- blocks of 55 bytes beside a list of as many elements
 blocks-length : {A : Type 0} (b : ℕ → Bool) (x : ℕ → List ℕ) (y : ℕ → A) (n : ℕ) → ((i : ℕ) → i < n → length (x i) ≡ 55)
-    → length (below (λ i. listIf (b i) (x i)) n) ≡ 55 * length (below (λ i. when (b i) (y i)) n)
+    → length (below (λ i. listIf (b i) (x i)) n) ≡ 55 * length (below (λ i. elementIf (b i) (y i)) n)
 unfolding below
 blocks-length b x y zero h = refl
 blocks-length b x y (suc n) h =
@@ -58,7 +58,7 @@ blocks-length b x y (suc n) h =
     omega (
       arith,
       length-append (below (λ i. listIf (b i) (x i)) n) (listIf (b n) (x n)),
-      length-append (below (λ i. when (b i) (y i)) n) (when (b n) (y n)),
+      length-append (below (λ i. elementIf (b i) (y i)) n) (elementIf (b n) (y n)),
       one-block (b n) (x n) (y n) (h n (omega arith)),
     )
 
@@ -68,7 +68,7 @@ calls-length w =
     blocks-length (isUsed (occupiedOf w)) (λ i. callBytes i (callAt (tableOf w) i)) (λ i. record { slot = i; ids = idsOf (callAt (tableOf w) i) }) total
     (λ i l. call-size i (callAt (tableOf w) i) (name-long w i l))
 
-pub used-writable : (t : Table) → rulesHold t ≡ true → (i : ℕ) → i < total → isUsed (t .occupied) i ≡ true → Writable (callAt t i)
+pub used-writable : (t : Table) → rulesHold t ≡ true → (i : ℕ) → i < total → isUsed (t .occupied) i ≡ true → CallFields (callAt t i)
 used-writable t h i l u =
     let k = rules-kept t h in
     let n = ids-named (callAt t i) (k .names i l u) in
@@ -105,10 +105,10 @@ unfolding listIf
 held-list-if true l = refl
 held-list-if false l = held-none
 
-pub held-when : (b : Bool) (x : Held) → heldBytes (when b x) ≡ listIf b (connectionBytes x)
-unfolding listIf when
-held-when true x = held-one x
-held-when false x = held-none
+pub held-element : (b : Bool) (x : Held) → heldBytes (elementIf b x) ≡ listIf b (connectionBytes x)
+unfolding listIf elementIf
+held-element true x = held-one x
+held-element false x = held-none
 
 -- ---- a writer that writes where a place is taken
 
@@ -123,14 +123,14 @@ put-nothing l x b e = rw (list-if-nothing b l e) (record { count = refl; is = fr
 module _ (f : Four) (j : ℕ) (x : Place) (e : x ≡ placeAt f j) where
   pub place-free : (x .taken ≡ 1 → ⊥) → (l : List ℕ) → Put (heldBytes (heldPlace f j)) 0 l l
   place-free n l =
-      rw (held-when (isTaken (placeAt f j)) (connectionAt f j)) (put-nothing (connectionBytes (connectionAt f j)) l (isTaken (placeAt f j)) (rw (← e) (ne-eqb (x .taken) 1 n)))
+      rw (held-element (isTaken (placeAt f j)) (connectionAt f j)) (put-nothing (connectionBytes (connectionAt f j)) l (isTaken (placeAt f j)) (rw (← e) (ne-eqb (x .taken) 1 n)))
 
   module _ (t : x .taken ≡ 1) where
     place-taken : isTaken (placeAt f j) ≡ true
     place-taken = rw (← e) (eq-eqb (x .taken) 1 t)
 
     pub place-room : length (heldBytes (heldPlace f j)) ≡ 18
-    place-room = rw (held-when (isTaken (placeAt f j)) (connectionAt f j), list-if-is _ (connectionBytes (connectionAt f j)) place-taken)
+    place-room = rw (held-element (isTaken (placeAt f j)) (connectionAt f j), list-if-is _ (connectionBytes (connectionAt f j)) place-taken)
 
     -- its numbers fit
     pub numbers-fit : FourFits f → j < 4 → (x .tunnel < 0x10000) × (x .lsp < 0x10000)
@@ -143,7 +143,7 @@ module _ (f : Four) (j : ℕ) (x : Place) (e : x ≡ placeAt f j) where
     pub place-put : {r : ℕ} {l m : List ℕ} (endpoint : ℕ) → endpoint ≡ f .endpoint j
         → Put (connectionBytes (record { call = f .call; lsp = record { endpoint = endpoint; tunnel = x .tunnel; extended = x .extended; sender = f .sender; lspId = x .lsp } })) r l m
         → Put (heldBytes (heldPlace f j)) r l m
-    place-put endpoint p w = rw (held-when (isTaken (placeAt f j)) (connectionAt f j)) (put-taken (isTaken (placeAt f j)) place-taken (rw (p, e) at w))
+    place-put endpoint p w = rw (held-element (isTaken (placeAt f j)) (connectionAt f j)) (put-taken (isTaken (placeAt f j)) place-taken (rw (p, e) at w))
 
 -- ---- a four by its place
 

@@ -9,7 +9,7 @@ ghost use Rattle.table.specs.Total.{totalOf};
 ghost use Rattle.table.specs.Lists.{heldPlace, heldIn, heldAt, standaloneAt};
 ghost use Rattle.table.specs.Rules.{rulesHold};
 ghost use Rattle.table.specs.Words.{tableOf};
-ghost use Rattle.table_words.specs.Fours.{fourAtWord, Inside};
+ghost use Rattle.table_words.specs.Fours.{fourAtWord, FourInside};
 ghost use Rattle.checkpoint_records.specs.Put.{Put};
 ghost use Rattle.checkpoint_write.specs.Bytes.{heldBytes, FourFits};
 use checkpoint_records::write::put_connection;
@@ -28,7 +28,7 @@ use table_words::head::occupied;
 
 // A connection's record, if its place is taken.
 fn put_place(out: &mut [u8], t: &Words, f: FourPlace, j: usize) -> usize
-    requires { ⌜ Inside f × (j < 4) × FourFits (fourAtWord (now t) f) × (length (heldBytes (heldPlace (fourAtWord (now t) f) j)) ≤ length (now out)) ⌝ }
+    requires { ⌜ FourInside f × (j < 4) × FourFits (fourAtWord (now t) f) × (length (heldBytes (heldPlace (fourAtWord (now t) f) j)) ≤ length (now out)) ⌝ }
     ensures { λ r. ⌜ Put (heldBytes (heldPlace (fourAtWord (now (t .entry)) f) j)) r (now (out .entry)) (now (out .exit)) ⌝ }
 {
     let p = place_words(t, f, j);
@@ -49,7 +49,7 @@ fn put_place(out: &mut [u8], t: &Words, f: FourPlace, j: usize) -> usize
 
 // The connections of a four, where its slot is used or its customer listed.
 fn put_four(out: &mut [u8], t: &Words, used: bool, f: FourPlace) -> usize
-    requires { ⌜ Inside f × (used ≡ true → FourFits (fourAtWord (now t) f)) × (length (heldBytes (listIf used (heldIn (fourAtWord (now t) f)))) ≤ length (now out)) ⌝ }
+    requires { ⌜ FourInside f × (used ≡ true → FourFits (fourAtWord (now t) f)) × (length (heldBytes (listIf used (heldIn (fourAtWord (now t) f)))) ≤ length (now out)) ⌝ }
     ensures { λ r. ⌜ Put (heldBytes (listIf used (heldIn (fourAtWord (now (t .entry)) f)))) r (now (out .entry)) (now (out .exit)) ⌝ }
 {
     if !used {

@@ -7,7 +7,7 @@ ghost use Rattle.table.specs.Total.{total};
 ghost use Rattle.table.specs.Lists.{callAt};
 ghost use Rattle.table.specs.Rules.{rulesHold};
 ghost use Rattle.table.specs.Words.{tableOf};
-ghost use Rattle.checkpoint_records.specs.Put.{Put, Writable};
+ghost use Rattle.checkpoint_records.specs.Put.{Put, CallFields};
 ghost use Rattle.checkpoint_write.specs.Bytes.{slotBytes, callsBytes};
 use checkpoint_records::write::put_call;
 use table::layout::SLOTS;
@@ -17,7 +17,7 @@ use table_words::head::occupied;
 
 // A slot's call, where it is used.
 fn put_slot(out: &mut [u8], t: &Words, used: bool, i: usize) -> usize
-    requires { ⌜ (i < total) × (used ≡ true → Writable (callAt (tableOf (now t)) i)) × (length (slotBytes used i (callAt (tableOf (now t)) i)) ≤ length (now out)) ⌝ }
+    requires { ⌜ (i < total) × (used ≡ true → CallFields (callAt (tableOf (now t)) i)) × (length (slotBytes used i (callAt (tableOf (now t)) i)) ≤ length (now out)) ⌝ }
     ensures { λ r. ⌜ Put (slotBytes used i (callAt (tableOf (now (t .entry))) i)) r (now (out .entry)) (now (out .exit)) ⌝ }
 {
     if used {

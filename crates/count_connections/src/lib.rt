@@ -4,7 +4,7 @@ ghost use mathlib.Core.Bool.{true, cond};
 ghost use Prim.Native.Nat.{_≤_, _<_};
 ghost use lib.ListN.{length};
 ghost use lib.Dec.{ltb};
-ghost use Rattle.lists.specs.Count.{count};
+ghost use Rattle.lists.specs.Count.{countIf};
 ghost use Rattle.lists.specs.Below.{below};
 ghost use Rattle.table.specs.Total.{total, totalOf};
 ghost use Rattle.table.specs.Word.{isUsed};
@@ -23,7 +23,7 @@ use table_words::head::occupied;
 // One of the table's slots, used or free: a free one has none.
 fn taken_in_slot(t: &Words, word: u64, i: usize) -> usize
     requires { ⌜ i < total ⌝ }
-    ensures { λ r. ⌜ (r ≡ cond (isUsed word i) (count (λ x. true) (heldIn (callFour (callAt (tableOf (now (t .entry))) i)))) 0) × (r ≤ 4) ⌝ }
+    ensures { λ r. ⌜ (r ≡ cond (isUsed word i) (countIf (λ x. true) (heldIn (callFour (callAt (tableOf (now (t .entry))) i)))) 0) × (r ≤ 4) ⌝ }
 {
     if is_used(word, i) {
         return taken_in(t, call_four(t, i));
@@ -32,7 +32,7 @@ fn taken_in_slot(t: &Words, word: u64, i: usize) -> usize
 }
 
 pub fn held_under_calls(t: &Words) -> usize
-    ensures { λ r. ⌜ (r ≡ count (λ x. true) (below (heldAt (tableOf (now (t .entry)))) (totalOf (tableOf (now (t .entry)))))) × (r ≤ 256) ⌝ }
+    ensures { λ r. ⌜ (r ≡ countIf (λ x. true) (below (heldAt (tableOf (now (t .entry)))) (totalOf (tableOf (now (t .entry)))))) × (r ≤ 256) ⌝ }
 {
     let word = occupied(t);
     let mut n: usize = 0;
@@ -47,7 +47,7 @@ pub fn held_under_calls(t: &Words) -> usize
 // One of the eight roster records: an unused one has none.
 fn taken_in_record(t: &Words, listed: usize, k: usize) -> usize
     requires { ⌜ k < 8 ⌝ }
-    ensures { λ r. ⌜ (r ≡ cond (ltb k listed) (count (λ x. true) (heldIn (customerFour (customerAt (tableOf (now (t .entry))) k)))) 0) × (r ≤ 4) ⌝ }
+    ensures { λ r. ⌜ (r ≡ cond (ltb k listed) (countIf (λ x. true) (heldIn (customerFour (customerAt (tableOf (now (t .entry))) k)))) 0) × (r ≤ 4) ⌝ }
 {
     if k < listed {
         return taken_in(t, customer_four(t, k));
@@ -57,7 +57,7 @@ fn taken_in_record(t: &Words, listed: usize, k: usize) -> usize
 
 // Those of Call ID 0, of the listed customers.
 pub fn held_standalone(t: &Words) -> usize
-    ensures { λ r. ⌜ (r ≡ count (λ x. true) (below (standaloneAt (tableOf (now (t .entry)))) 8)) × (r ≤ 32) ⌝ }
+    ensures { λ r. ⌜ (r ≡ countIf (λ x. true) (below (standaloneAt (tableOf (now (t .entry)))) 8)) × (r ≤ 32) ⌝ }
 {
     let listed = listed(t);
     let mut n: usize = 0;

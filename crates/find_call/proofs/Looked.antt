@@ -5,7 +5,7 @@ use mathlib.Core.Path.{_≡_, refl, sym, _∙_}
 use mathlib.Core.Bool.{Bool, true, false, cond, _&&_, _||_}
 use Rattle.lists.specs.Count.{has}
 use Rattle.lists.specs.Below.{below, placeOf}
-use Rattle.lists.proofs.Below.{has-none, has-when, has-turn, has-turns}
+use Rattle.lists.proofs.Below.{has-none, has-element, has-turn, has-turns}
 use Rattle.lists.proofs.Search.{place-none, place-turn}
 use Rattle.table.specs.Table.{Table}
 use Rattle.table.specs.Total.{totalOf}
@@ -52,7 +52,7 @@ module _ (t : Table) (c : Ids) where
         long = has-turn (openAt t) (λ e. sameLong c (e .ids)) i (w .long) l u x refl (h .long) le;
         short = has-turn (openAt t) (λ e. sameShort c (e .ids)) i (w .short) s u x refl (h .short) se;
         busy = has-turns (heldAt t) (isUnder c) i (w .busy) b u (heldIn (callFour (callAt t i))) refl (h .busy) be;
-        slot = rw (me, ne) (place-turn (openAt t) (isCall c) i (w .slot) (w .known) (s && l) (h .known) (h .slot) (here ∙ sym (has-when (isCall c) u x)));
+        slot = rw (me, ne) (place-turn (openAt t) (isCall c) i (w .slot) (w .known) (s && l) (h .known) (h .slot) (here ∙ sym (has-element (isCall c) u x)));
       }
     where
       by : (u a b : Bool) → (u && a && (u && b)) ≡ (u && (a && b))

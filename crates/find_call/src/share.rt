@@ -2,7 +2,7 @@
 ghost use mathlib.Core.Path.{_≡_};
 ghost use Rattle.table.specs.Total.{totalOf};
 ghost use Rattle.table.specs.Lists.{roster, entries};
-ghost use Rattle.table.specs.Share.{listed, guaranteeOf, limitOf, callsOf};
+ghost use Rattle.table.specs.Share.{isListed, guaranteeOf, limitOf, callsOf};
 ghost use Rattle.table.specs.Words.{tableOf};
 ghost use Rattle.spec_calls.specs.CallRules.{shareUsedUp};
 use lists::number_if;
@@ -27,7 +27,7 @@ pub struct Listing {
 }
 
 pub fn listing_of(t: &Words, address: u32) -> Listing
-    ensures { λ r. ⌜ (r .known ≡ listed (roster (tableOf (now (t .entry)))) address) × (r .guarantee ≡ guaranteeOf (roster (tableOf (now (t .entry)))) address) × (r .limit ≡ limitOf (roster (tableOf (now (t .entry)))) address) ⌝ }
+    ensures { λ r. ⌜ (r .known ≡ isListed (roster (tableOf (now (t .entry)))) address) × (r .guarantee ≡ guaranteeOf (roster (tableOf (now (t .entry)))) address) × (r .limit ≡ limitOf (roster (tableOf (now (t .entry)))) address) ⌝ }
 {
     let n = listed(t);
     let mut known = false;

@@ -4,13 +4,13 @@ use Prim.Native.Nat.{ℕ, _+_}
 use mathlib.Core.Path.{_≡_, sym, _∙_}
 use mathlib.Core.List.{List}
 use mathlib.Core.Bool.{Bool, false, cond, _||_}
-use Rattle.lists.specs.Count.{count, has}
+use Rattle.lists.specs.Count.{countIf, has}
 use Rattle.lists.specs.Below.{listIf, below, placeOf}
 use Rattle.lists.proofs.Count.{has-append}
 use Rattle.lists.proofs.Below.{below-more, count-none, count-turns, has-none, has-turns, has-list-if}
 use Rattle.lists.proofs.Search.{place-none, place-turn}
 use Rattle.table.specs.Lists.{Held}
-use Rattle.table.specs.Rules.{sameLsp}
+use Rattle.table.specs.Rules.{isLsp}
 use Rattle.spec_changes.specs.Connections.{sameFour}
 use Rattle.spec_calls.specs.PathRules.{underOther}
 use Rattle.find_connection.specs.Looks.{Matched}
@@ -32,20 +32,20 @@ module _ {A : Type 0} (f : ℕ → List A) (p : A → Bool) where
   }
 
 module _ (f : ℕ → List Held) (x : Held) where
-  -- whether the first n lists have a connection under another Call ID, whether they have it and where, and how many of
-  -- its four they have
-  pub record Looked (n : ℕ) (o h : Bool) (at m : ℕ) : Type 0 where
+  -- whether the first n lists have a connection under another Call ID, whether they have it, and how many of its four
+  -- they have
+  pub record Looked (n : ℕ) (o h : Bool) (m : ℕ) : Type 0 where
     pub other : o ≡ has (underOther x) (below f n)
-    pub held : Sought f (sameLsp x) n h at
-    pub four : m ≡ count (sameFour x) (below f n)
+    pub held : h ≡ has (isLsp (x .lsp)) (below f n)
+    pub four : m ≡ countIf (sameFour x) (below f n)
 
-  pub looked-none : Looked 0 false false 0 0
-  looked-none = record { other = sym (has-none f (underOther x)); held = sought-none f (sameLsp x); four = sym (count-none f (sameFour x)) }
+  pub looked-none : Looked 0 false false 0
+  looked-none = record { other = sym (has-none f (underOther x)); held = sym (has-none f (isLsp (x .lsp))); four = sym (count-none f (sameFour x)) }
 
-  pub looked-turn : {n at four here then m : ℕ} {other held o h : Bool} (used : Bool) (l : List Held) → f n ≡ listIf used l → Looked n other held at four
-      → Matched used x l o h m → here ≡ cond h n 0 → then ≡ cond held at here → Looked (n + 1) (other || o) (held || h) then (four + m)
-  looked-turn {n} {at} {four} {here} {then} {m} {other} {held} {o} {h} used l e k t g d = record {
+  pub looked-turn : {n four m : ℕ} {other held o h : Bool} (used : Bool) (l : List Held) → f n ≡ listIf used l → Looked n other held four
+      → Matched used x l o h m → Looked (n + 1) (other || o) (held || h) (four + m)
+  looked-turn {n} {four} {m} {other} {held} {o} {h} used l e k t = record {
     other = has-turns f (underOther x) n other o used l e (k .other) (t .0);
-    held = sought-turn f (sameLsp x) h (k .held) (rw e (t .1 ∙ sym (has-list-if (sameLsp x) used l))) g d;
+    held = has-turns f (isLsp (x .lsp)) n held h used l e (k .held) (t .1);
     four = count-turns f (sameFour x) n four m used l e (k .four) (t .2);
   }

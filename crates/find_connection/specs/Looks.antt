@@ -4,30 +4,43 @@ use Prim.Native.Nat.{ℕ, _≤_}
 use mathlib.Core.Path.{_≡_}
 use mathlib.Core.List.{List}
 use mathlib.Core.Bool.{Bool, cond, _&&_}
-use Rattle.lists.specs.Count.{count, has}
+use Rattle.lists.specs.Count.{countIf, has}
 use Rattle.lists.specs.Below.{below, placeOf}
 use Rattle.table.specs.Table.{Table}
 use Rattle.table.specs.Total.{totalOf}
-use Rattle.table.specs.Lists.{entries, Held, heldAt, standaloneAt}
-use Rattle.table.specs.Rules.{sameLsp}
+use Rattle.table.specs.Lists.{entries, Lsp, Held, heldAt, standaloneAt}
+use Rattle.table.specs.Rules.{isLsp}
 use Rattle.spec_changes.specs.Calls.{slotOf}
 use Rattle.spec_changes.specs.Connections.{sameFour, isCallOf}
 use Rattle.spec_calls.specs.PathRules.{underOther}
+use Rattle.find_connection.specs.declared.four.Found.{Found}
 use Rattle.find_connection.specs.declared.under.UnderLook.{UnderLook}
 use Rattle.find_connection.specs.declared.standalone.StandaloneLook.{StandaloneLook}
 
--- what one list says of a connection, where it counts: whether it has it under another Call ID, whether it has it, how
--- many of its four it has
+-- where a connection stands: under which slot's call, with which customer
+unfoldable pub underFoundOf : Table → Lsp → Found
+underFoundOf t x = record {
+  held = has (isLsp x) (below (heldAt t) (totalOf t));
+  at = placeOf (heldAt t) (isLsp x) (totalOf t);
+}
+
+unfoldable pub standaloneFoundOf : Table → Lsp → Found
+standaloneFoundOf t x = record {
+  held = has (isLsp x) (below (standaloneAt t) 8);
+  at = placeOf (standaloneAt t) (isLsp x) 8;
+}
+
+-- what one list says of a Path's connection, where it counts: whether it has it under another Call ID, whether it has it,
+-- how many of its four it has
 abbrev pub Matched : Bool → Held → List Held → Bool → Bool → ℕ → Type 0
 Matched used x l other held four =
-    (other ≡ (used && has (underOther x) l)) × (held ≡ (used && has (sameLsp x) l)) × (four ≡ cond used (count (sameFour x) l) 0) × (four ≤ 4)
+    (other ≡ (used && has (underOther x) l)) × (held ≡ (used && has (isLsp (x .lsp)) l)) × (four ≡ cond used (countIf (sameFour x) l) 0) × (four ≤ 4)
 
 unfoldable pub underLookOf : Table → Held → UnderLook
 underLookOf t x = record {
   other = has (underOther x) (below (heldAt t) (totalOf t));
-  held = has (sameLsp x) (below (heldAt t) (totalOf t));
-  at = placeOf (heldAt t) (sameLsp x) (totalOf t);
-  four = count (sameFour x) (below (heldAt t) (totalOf t));
+  held = has (isLsp (x .lsp)) (below (heldAt t) (totalOf t));
+  four = countIf (sameFour x) (below (heldAt t) (totalOf t));
   known = has (isCallOf x) (entries t);
   slot = slotOf t (isCallOf x);
 }
@@ -35,7 +48,6 @@ underLookOf t x = record {
 unfoldable pub standaloneLookOf : Table → Held → StandaloneLook
 standaloneLookOf t x = record {
   other = has (underOther x) (below (standaloneAt t) 8);
-  held = has (sameLsp x) (below (standaloneAt t) 8);
-  at = placeOf (standaloneAt t) (sameLsp x) 8;
-  four = count (sameFour x) (below (standaloneAt t) 8);
+  held = has (isLsp (x .lsp)) (below (standaloneAt t) 8);
+  four = countIf (sameFour x) (below (standaloneAt t) 8);
 }

@@ -4,8 +4,8 @@ use Prim.Native.Nat.{ℕ, _+_, _<_}
 use mathlib.Core.Path.{_≡_, sym, ap, _∙_}
 use mathlib.Core.Bool.{Bool, true, false, cond, not, _&&_, and-true, and-false}
 use lib.Dec.{eqb, ltb}
-use borrow.Author.Tests.{eq-eqb, ne-eqb}
-use Rattle.lists.specs.Count.{bit, count}
+use borrow.Author.Tests.{eq-eqb, ne-eqb, eqb-false, not-true, not-false}
+use Rattle.lists.specs.Count.{bit, countIf}
 use Rattle.lists.specs.Below.{below, everyBelow, firstBelow}
 use Rattle.lists.specs.Pairs.{meet}
 use Rattle.lists.proofs.Below.{every-within}
@@ -13,7 +13,7 @@ use Rattle.lists.proofs.Shown.{count-four}
 use Rattle.lists.proofs.Pairs.{meet-never}
 use Rattle.table.specs.Table.{Place}
 use Rattle.table.specs.Lists.{Held, Four, placeAt, isTaken, connectionAt, heldIn}
-use Rattle.table.specs.Rules.{sameLsp, placeClear, placeValid}
+use Rattle.table.specs.Rules.{sameLsp, sameConnection, placeClear, placeValid}
 use Rattle.fours.specs.Apart.{apart}
 
 -- the first of four places, by the test of each
@@ -27,7 +27,7 @@ module _ (f : Four) where
   taken j = isTaken (placeAt f j)
 
   pub four-counted : (a b c d : Bool) (r : ℕ) → a ≡ taken 0 → b ≡ taken 1 → c ≡ taken 2 → d ≡ taken 3 → r ≡ bit a + bit b + bit c + bit d
-      → r ≡ count (λ x. true) (heldIn f)
+      → r ≡ countIf (λ x. true) (heldIn f)
   four-counted a b c d r e g h i k = rw (k, e, g, h, i) (count-four taken (connectionAt f))
 
   -- a free place is apart from every earlier one
@@ -35,42 +35,45 @@ module _ (f : Four) where
   free-apart i h = sym (every-within (apart f i) i (λ j l. rw (h, and-false (taken j))))
 
   -- a taken one where the connections differ
-  pub taken-apart : (i j : ℕ) (a s : Bool) → taken i ≡ true → a ≡ taken j → s ≡ sameLsp (connectionAt f j) (connectionAt f i) → not (a && s) ≡ apart f i j
+  pub taken-apart : (i j : ℕ) (a s : Bool) → taken i ≡ true → a ≡ taken j → s ≡ sameConnection (connectionAt f j) (connectionAt f i) → not (a && s) ≡ apart f i j
   taken-apart i j a s h e q = rw (h, e, q)
 
 -- ---- connections that are the same
 
-other-sender : (x y : Held) → (x .lsp .sender ≡ y .lsp .sender → ⊥) → sameLsp x y ≡ false
+other-sender : (x y : Held) → (x .lsp .sender ≡ y .lsp .sender → ⊥) → sameConnection x y ≡ false
 unfolding sameLsp
 other-sender x y n = rw (ne-eqb (x .lsp .sender) (y .lsp .sender) n, and-false (eqb (x .lsp .endpoint) (y .lsp .endpoint)))
 
-other-tunnel : (x y : Held) → (x .lsp .tunnel ≡ y .lsp .tunnel → ⊥) → sameLsp x y ≡ false
+other-tunnel : (x y : Held) → (x .lsp .tunnel ≡ y .lsp .tunnel → ⊥) → sameConnection x y ≡ false
 unfolding sameLsp
 other-tunnel x y n =
     rw (ne-eqb (x .lsp .tunnel) (y .lsp .tunnel) n, and-false (eqb (x .lsp .endpoint) (y .lsp .endpoint) && eqb (x .lsp .sender) (y .lsp .sender)))
 
 module _ (f g : Four) where
   module _ (i j : ℕ) (p q : Place) (x : p ≡ placeAt f i) (y : q ≡ placeAt g j) where
-    pub tunnels-apart : (p .tunnel ≡ q .tunnel → ⊥) → false ≡ sameLsp (connectionAt f i) (connectionAt g j)
-    tunnels-apart n = sym (other-tunnel (connectionAt f i) (connectionAt g j) (λ h. n (ap (λ (z : Place). z .tunnel) x ∙ h ∙ sym (ap (λ (z : Place). z .tunnel) y))))
+    pub tunnels-apart : (s : Bool) → s ≡ eqb (p .tunnel) (q .tunnel) → not s ≡ true → false ≡ sameConnection (connectionAt f i) (connectionAt g j)
+    tunnels-apart s e n =
+        let apart = eqb-false (p .tunnel) (q .tunnel) (sym e ∙ not-true s n) in
+        sym (other-tunnel (connectionAt f i) (connectionAt g j) (λ h. apart (ap (λ (z : Place). z .tunnel) x ∙ h ∙ sym (ap (λ (z : Place). z .tunnel) y))))
 
-    pub same-by-words : (e d : ℕ) → e ≡ f .endpoint i → d ≡ g .endpoint j → p .tunnel ≡ q .tunnel
-        → (eqb e d && eqb (f .sender) (g .sender) && eqb (p .extended) (q .extended) && eqb (p .lsp) (q .lsp)) ≡ sameLsp (connectionAt f i) (connectionAt g j)
+    pub same-by-words : (e d : ℕ) (s l : Bool) → e ≡ f .endpoint i → d ≡ g .endpoint j → s ≡ eqb (p .tunnel) (q .tunnel) → not s ≡ false → l ≡ eqb (p .lsp) (q .lsp)
+        → (eqb e d && eqb (f .sender) (g .sender) && eqb (p .extended) (q .extended) && l) ≡ sameConnection (connectionAt f i) (connectionAt g j)
     unfolding sameLsp
-    same-by-words e d a b h =
+    same-by-words e d s l a b t n h =
         rw (
           a,
           b,
+          h,
           ← x,
           ← y,
-          eq-eqb (p .tunnel) (q .tunnel) h,
+          sym t ∙ not-false s n,
           and-true (eqb (f .endpoint i) (g .endpoint j) && eqb (f .sender) (g .sender)),
         )
 
   -- those of two senders are never the same
-  pub senders-apart : (f .sender ≡ g .sender → ⊥) → false ≡ meet sameLsp (heldIn f) (heldIn g)
+  pub senders-apart : (f .sender ≡ g .sender → ⊥) → false ≡ meet sameConnection (heldIn f) (heldIn g)
   senders-apart h =
-      sym (meet-never sameLsp _ _ (connectionAt f) (connectionAt g) 4 4 (λ i k. other-sender (connectionAt f i) (connectionAt g k) h))
+      sym (meet-never sameConnection _ _ (connectionAt f) (connectionAt g) 4 4 (λ i k. other-sender (connectionAt f i) (connectionAt g k) h))
 
 -- ---- places that are valid
 

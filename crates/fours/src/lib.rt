@@ -3,12 +3,12 @@
 ghost use mathlib.Core.Path.{_≡_};
 ghost use mathlib.Core.Bool.{true, cond, not, _&&_};
 ghost use Prim.Native.Nat.{_+_, _≤_, _<_};
-ghost use Rattle.lists.specs.Count.{bit, count, has, noTwo};
+ghost use Rattle.lists.specs.Count.{bit, countIf, has, noTwo};
 ghost use Rattle.lists.specs.Below.{everyBelow, firstBelow};
 ghost use Rattle.lists.specs.Pairs.{meet};
 ghost use Rattle.table.specs.Lists.{placeAt, isTaken, connectionAt, heldIn};
-ghost use Rattle.table.specs.Rules.{sameLsp, placeValid, fourValid};
-ghost use Rattle.table_words.specs.Fours.{fourAtWord, placeOfWords, Inside};
+ghost use Rattle.table.specs.Rules.{sameConnection, placeValid, fourValid};
+ghost use Rattle.table_words.specs.Fours.{fourAtWord, placeOfWords, FourInside};
 ghost use Rattle.fours.specs.Apart.{apart};
 use lists::one_if;
 use table::layout::Words;
@@ -16,9 +16,15 @@ use table_words::fours::FourPlace;
 use table_words::fours::PlaceWords;
 use table_words::fours::endpoint_at;
 use table_words::fours::place_words;
+use table_words::ids::is_lsp_id;
+use table_words::ids::is_tunnel_id;
+use table_words::ids::is_zero_lsp;
+use table_words::ids::is_zero_tunnel;
+use table_words::ids::same_lsp;
+use table_words::ids::same_tunnel;
 
 fn is_taken(t: &Words, f: FourPlace, j: usize) -> bool
-    requires { ⌜ Inside f × (j < 4) ⌝ }
+    requires { ⌜ FourInside f × (j < 4) ⌝ }
     ensures { λ r. ⌜ r ≡ isTaken (placeAt (fourAtWord (now (t .entry)) f) j) ⌝ }
 {
     let p = place_words(t, f, j);
@@ -53,8 +59,8 @@ fn first_of_four(a: bool, b: bool, c: bool, d: bool) -> usize
 
 // How many places are taken.
 pub fn taken_in(t: &Words, f: FourPlace) -> usize
-    requires { ⌜ Inside f ⌝ }
-    ensures { λ r. ⌜ (r ≡ count (λ x. true) (heldIn (fourAtWord (now (t .entry)) f))) × (r ≤ 4) ⌝ }
+    requires { ⌜ FourInside f ⌝ }
+    ensures { λ r. ⌜ (r ≡ countIf (λ x. true) (heldIn (fourAtWord (now (t .entry)) f))) × (r ≤ 4) ⌝ }
 {
     of_four(
         is_taken(t, f, 0),
@@ -65,7 +71,7 @@ pub fn taken_in(t: &Words, f: FourPlace) -> usize
 }
 
 pub fn has_taken(t: &Words, f: FourPlace) -> bool
-    requires { ⌜ Inside f ⌝ }
+    requires { ⌜ FourInside f ⌝ }
     ensures { λ r. ⌜ r ≡ has (λ x. true) (heldIn (fourAtWord (now (t .entry)) f)) ⌝ }
 {
     0 < taken_in(t, f)
@@ -73,7 +79,7 @@ pub fn has_taken(t: &Words, f: FourPlace) -> bool
 
 // The lowest free place, 0 where none is.
 pub fn free_place(t: &Words, f: FourPlace) -> usize
-    requires { ⌜ Inside f ⌝ }
+    requires { ⌜ FourInside f ⌝ }
     ensures { λ r. ⌜ (r ≡ firstBelow (λ j. not (isTaken (placeAt (fourAtWord (now (t .entry)) f) j))) 4) × (r < 4) ⌝ }
 {
     first_of_four(
@@ -86,24 +92,24 @@ pub fn free_place(t: &Words, f: FourPlace) -> usize
 
 // Two places have the same connection; whether they are taken is another matter. Most differ by the Tunnel ID.
 fn same_connection(t: &Words, f: FourPlace, i: usize, g: FourPlace, j: usize) -> bool
-    requires { ⌜ Inside f × Inside g × (i < 4) × (j < 4) ⌝ }
-    ensures { λ r. ⌜ r ≡ sameLsp (connectionAt (fourAtWord (now (t .entry)) f) i) (connectionAt (fourAtWord (now (t .entry)) g) j) ⌝ }
+    requires { ⌜ FourInside f × FourInside g × (i < 4) × (j < 4) ⌝ }
+    ensures { λ r. ⌜ r ≡ sameConnection (connectionAt (fourAtWord (now (t .entry)) f) i) (connectionAt (fourAtWord (now (t .entry)) g) j) ⌝ }
 {
     let p = place_words(t, f, i);
     let q = place_words(t, g, j);
-    if p.tunnel.0 != q.tunnel.0 {
+    if !same_tunnel(p.tunnel, q.tunnel) {
         return false;
     }
     (endpoint_at(t, f, i) == endpoint_at(t, g, j))
         & (f.sender == g.sender)
         & (p.extended == q.extended)
-        & (p.lsp.0 == q.lsp.0)
+        & same_lsp(p.lsp, q.lsp)
 }
 
 // The connection in a place is one of the other four's.
 fn is_among(t: &Words, f: FourPlace, i: usize, g: FourPlace) -> bool
-    requires { ⌜ Inside f × Inside g × (i < 4) ⌝ }
-    ensures { λ r. ⌜ r ≡ has (sameLsp (connectionAt (fourAtWord (now (t .entry)) f) i)) (heldIn (fourAtWord (now (t .entry)) g)) ⌝ }
+    requires { ⌜ FourInside f × FourInside g × (i < 4) ⌝ }
+    ensures { λ r. ⌜ r ≡ has (sameConnection (connectionAt (fourAtWord (now (t .entry)) f) i)) (heldIn (fourAtWord (now (t .entry)) g)) ⌝ }
 {
     let mut found = false;
     let mut j: usize = 0;
@@ -116,8 +122,8 @@ fn is_among(t: &Words, f: FourPlace, i: usize, g: FourPlace) -> bool
 
 // The same, of a place that may be free: then the other four is not looked at.
 fn is_shared(t: &Words, f: FourPlace, i: usize, g: FourPlace) -> bool
-    requires { ⌜ Inside f × Inside g × (i < 4) ⌝ }
-    ensures { λ r. ⌜ r ≡ (isTaken (placeAt (fourAtWord (now (t .entry)) f) i) && has (sameLsp (connectionAt (fourAtWord (now (t .entry)) f) i)) (heldIn (fourAtWord (now (t .entry)) g))) ⌝ }
+    requires { ⌜ FourInside f × FourInside g × (i < 4) ⌝ }
+    ensures { λ r. ⌜ r ≡ (isTaken (placeAt (fourAtWord (now (t .entry)) f) i) && has (sameConnection (connectionAt (fourAtWord (now (t .entry)) f) i)) (heldIn (fourAtWord (now (t .entry)) g))) ⌝ }
 {
     if is_taken(t, f, i) {
         return is_among(t, f, i, g);
@@ -127,8 +133,8 @@ fn is_shared(t: &Words, f: FourPlace, i: usize, g: FourPlace) -> bool
 
 // A connection of the one is also the other's. Fours of two senders have none in common.
 pub fn fours_meet(t: &Words, f: FourPlace, g: FourPlace) -> bool
-    requires { ⌜ Inside f × Inside g ⌝ }
-    ensures { λ r. ⌜ r ≡ meet sameLsp (heldIn (fourAtWord (now (t .entry)) f)) (heldIn (fourAtWord (now (t .entry)) g)) ⌝ }
+    requires { ⌜ FourInside f × FourInside g ⌝ }
+    ensures { λ r. ⌜ r ≡ meet sameConnection (heldIn (fourAtWord (now (t .entry)) f)) (heldIn (fourAtWord (now (t .entry)) g)) ⌝ }
 {
     if f.sender != g.sender {
         return false;
@@ -144,7 +150,7 @@ pub fn fours_meet(t: &Words, f: FourPlace, g: FourPlace) -> bool
 
 // The connection in a place, where it is taken, is that of no earlier place.
 fn apart_from_earlier(t: &Words, f: FourPlace, i: usize) -> bool
-    requires { ⌜ Inside f × (i < 4) ⌝ }
+    requires { ⌜ FourInside f × (i < 4) ⌝ }
     ensures { λ r. ⌜ r ≡ everyBelow (λ j. apart (fourAtWord (now (t .entry)) f) i j) i ⌝ }
 {
     if !is_taken(t, f, i) {
@@ -161,8 +167,8 @@ fn apart_from_earlier(t: &Words, f: FourPlace, i: usize) -> bool
 
 // No two connections are alike.
 pub fn four_once(t: &Words, f: FourPlace) -> bool
-    requires { ⌜ Inside f ⌝ }
-    ensures { λ r. ⌜ r ≡ noTwo sameLsp (heldIn (fourAtWord (now (t .entry)) f)) ⌝ }
+    requires { ⌜ FourInside f ⌝ }
+    ensures { λ r. ⌜ r ≡ noTwo sameConnection (heldIn (fourAtWord (now (t .entry)) f)) ⌝ }
 {
     let mut once = true;
     let mut i: usize = 0;
@@ -178,13 +184,13 @@ fn place_valid(p: PlaceWords) -> bool
     ensures { λ r. ⌜ r ≡ placeValid (placeOfWords p) ⌝ }
 {
     if p.taken == 1 {
-        return (p.tunnel.0 < 0x10000) & (p.lsp.0 < 0x10000);
+        return is_tunnel_id(p.tunnel) & is_lsp_id(p.lsp);
     }
-    (p.taken == 0) & (p.tunnel.0 == 0) & (p.extended == 0) & (p.lsp.0 == 0)
+    (p.taken == 0) & is_zero_tunnel(p.tunnel) & (p.extended == 0) & is_zero_lsp(p.lsp)
 }
 
 pub fn four_valid(t: &Words, f: FourPlace) -> bool
-    requires { ⌜ Inside f ⌝ }
+    requires { ⌜ FourInside f ⌝ }
     ensures { λ r. ⌜ r ≡ fourValid (fourAtWord (now (t .entry)) f) ⌝ }
 {
     let mut valid = true;

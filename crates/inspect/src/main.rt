@@ -57,20 +57,20 @@ fn print_request(label: &[u8], r: CallRequest) {
     print_address(b" sender ", r.sender);
     print_number(b" call ", r.call.0 as u32);
     print_part(b" name ", r.name);
-    print_number(b" epoch ", r.id.epoch);
-    print_number(b" identifier ", r.id.identifier);
+    print_number(b" epoch ", r.sequence.epoch);
+    print_number(b" identifier ", r.sequence.identifier);
     print_part(b" session ", r.session);
     print_part(b" attribute ", r.attribute);
     print_part(b" template ", r.template);
 }
 
 fn print_connection(label: &[u8], c: Connection) {
-    print_address(label, c.endpoint);
-    print_address(b" sender ", c.sender);
+    print_address(label, c.lsp.endpoint);
+    print_address(b" sender ", c.lsp.sender);
     print_number(b" call ", c.call.0 as u32);
-    print_number(b" tunnel ", c.tunnel.0 as u32);
-    print_address(b" extended ", c.extended);
-    print_number(b" lsp ", c.lsp.0 as u32);
+    print_number(b" tunnel ", c.lsp.tunnel.0 as u32);
+    print_address(b" extended ", c.lsp.extended);
+    print_number(b" lsp ", c.lsp.lsp.0 as u32);
     print_part(b" session ", c.session);
     print_part(b" template ", c.template);
 }

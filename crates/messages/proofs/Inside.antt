@@ -8,7 +8,7 @@ use mathlib.Core.List.{List}
 use mathlib.Core.Bool.{Bool, true, false, cond, not, _||_}
 use lib.Dec.{ltb, eqb}
 use borrow.Author.Tests.{eqb-false, ltb-false, not-false}
-use Rattle.numbers.proofs.BigEndian.{be16-bound}
+use Rattle.numbers.proofs.BigEndian.{be16-bound, be32-bound}
 use Rattle.objects.specs.Forms.{nameLength}
 use Rattle.objects.specs.Placed.{Placed}
 use Rattle.objects.specs.Walk.{walkOf}
@@ -27,8 +27,9 @@ use Rattle.messages.specs.declared.read.Reading.the-variants.{Refused, U
 use Rattle.messages.specs.Header.{headerOf}
 use Rattle.messages.specs.Status.{bitSet, deleteBit}
 use Rattle.messages.specs.Counts.{notifyComplete, pathComplete}
-use Rattle.messages.specs.Fields.{callAt, connectionAt, requestAt}
+use Rattle.messages.specs.Fields.{callIdAt, connectionIn, requestAt}
 use Rattle.messages.specs.Inside.{CallInside, ConnectionInside, Inside}
+use Rattle.messages.specs.Claims.{ReadInside}
 use Rattle.messages.specs.Read.{statusAt, isCallRequest, badIdentity, notifyOf, pathOf, objectsRead, walkedRead, headerRead, readOf}
 use Rattle.messages.proofs.Bounds.{path-bounds, notify-bounds}
 
@@ -39,17 +40,17 @@ Promised s (Unfit fault sender headers) = Unit {0}
 Promised s (Read message headers) = Inside s message
 
 good-identity : (s : List ℕ) (session attribute : ℕ) → badIdentity s session attribute ≡ false
-    → (0 < callAt s session) × (0 < nameLength s attribute) × (nameLength s attribute ≤ 32)
+    → (0 < callIdAt s session) × (0 < nameLength s attribute) × (nameLength s attribute ≤ 32)
 unfolding badIdentity
-good-identity s session attribute e = by (eqb (callAt s session) 0) (eqb (nameLength s attribute) 0) (ltb 32 (nameLength s attribute)) refl refl refl e
+good-identity s session attribute e = by (eqb (callIdAt s session) 0) (eqb (nameLength s attribute) 0) (ltb 32 (nameLength s attribute)) refl refl refl e
   where
-    by : (a b d : Bool) → eqb (callAt s session) 0 ≡ a → eqb (nameLength s attribute) 0 ≡ b → ltb 32 (nameLength s attribute) ≡ d → (a || b || d) ≡ false
-        → (0 < callAt s session) × (0 < nameLength s attribute) × (nameLength s attribute ≤ 32)
+    by : (a b d : Bool) → eqb (callIdAt s session) 0 ≡ a → eqb (nameLength s attribute) 0 ≡ b → ltb 32 (nameLength s attribute) ≡ d → (a || b || d) ≡ false
+        → (0 < callIdAt s session) × (0 < nameLength s attribute) × (nameLength s attribute ≤ 32)
     by true b d p q r e = let z : _≡_ {A = ℕ} 0 1 = cc in absurd (omega arith)
     by false true d p q r e = let z : _≡_ {A = ℕ} 0 1 = cc in absurd (omega arith)
     by false false true p q r e = let z : _≡_ {A = ℕ} 0 1 = cc in absurd (omega arith)
     by false false false p q r e =
-        let x : callAt s session ≡ 0 → ⊥ = eqb-false _ _ p in
+        let x : callIdAt s session ≡ 0 → ⊥ = eqb-false _ _ p in
         let y : nameLength s attribute ≡ 0 → ⊥ = eqb-false _ _ q in
         (omega arith, omega arith, ltb-false _ _ r)
 
@@ -83,11 +84,14 @@ module _ (s : List ℕ) where
         name = omega (arith, b .attribute, b .attributeSize);
         sessionSize = refl;
         templateSize = refl;
-        attributeSize = omega (arith, b .attributeSize, k);
+        attributeLeast = omega (arith, b .attributeSize);
+        attributeMost = omega (arith, b .attributeSize, k);
+        attributeFours = omega (arith, b .attributeSize);
         nameSome = k .1;
         nameMost = k .2;
         callSome = k .0;
         callFits = be16-bound s (v .session .at + 8);
+        identifierFits = be32-bound s (v .identifier .at + 8);
       }
 
   notify : (v : Objects) → Placed s v → Promised s (notifyOf s v)
@@ -98,8 +102,8 @@ module _ (s : List ℕ) where
       either (badIdentity s (v .session .at) (v .attribute .at)) _ _ (λ _. unfit _ _ _) (λ i.
       either (bitSet deleteBit (statusAt s (v .status .at))) _ _ (λ _. as-read _ _ (request v g (not-false _ e) i)) (λ _. as-read _ _ (request v g (not-false _ e) i)))))
 
-  connection : (v : Objects) → Placed s v → pathComplete v ≡ true → ConnectionInside s (connectionAt s (v .session .at) (v .template .at))
-  unfolding connectionAt
+  connection : (v : Objects) → Placed s v → pathComplete v ≡ true → ConnectionInside s (connectionIn s (v .session .at) (v .template .at))
+  unfolding connectionIn
   connection v g e =
       let b = path-bounds s v e g in
       record {
@@ -132,6 +136,6 @@ module _ (s : List ℕ) where
   unfolding readOf
   promised = by-header (headerOf s)
 
-  pub read-inside : (message : Message) (headers : ℕ) → readOf s ≡ Read message headers → Inside s message
-  unfolding Promised
-  read-inside message headers e = subst (Promised s) e promised
+pub read-inside : ReadInside
+unfolding Promised
+read-inside s message headers e = subst (Promised s) e (promised s)

@@ -10,8 +10,8 @@ use Rattle.messages.specs.declared.message.Connection.{Connection}
 abbrev pub endpointAt : List ℕ → ℕ → ℕ
 endpointAt s session = be32At s (session + 4)
 
-abbrev pub callAt : List ℕ → ℕ → ℕ
-callAt s session = be16At s (session + 8)
+abbrev pub callIdAt : List ℕ → ℕ → ℕ
+callIdAt s session = be16At s (session + 8)
 
 abbrev pub tunnelAt : List ℕ → ℕ → ℕ
 tunnelAt s session = be16At s (session + 10)
@@ -27,14 +27,16 @@ abbrev pub lspAt : List ℕ → ℕ → ℕ
 lspAt s template = be16At s (template + 10)
 
 -- what a Path or a PathTear says
-unfoldable pub connectionAt : List ℕ → ℕ → ℕ → Connection
-connectionAt s session template = record {
-  endpoint = endpointAt s session;
-  sender = senderAt s template;
-  call = record { 0 = callAt s session };
-  tunnel = record { 0 = tunnelAt s session };
-  extended = extendedAt s session;
-  lsp = record { 0 = lspAt s template };
+unfoldable pub connectionIn : List ℕ → ℕ → ℕ → Connection
+connectionIn s session template = record {
+  call = record { 0 = callIdAt s session };
+  lsp = record {
+    endpoint = endpointAt s session;
+    tunnel = record { 0 = tunnelAt s session };
+    extended = extendedAt s session;
+    sender = senderAt s template;
+    lsp = record { 0 = lspAt s template };
+  };
   session = record { at = session; size = 16 };
   template = record { at = template; size = 12 };
 }
@@ -44,9 +46,9 @@ unfoldable pub requestAt : List ℕ → ℕ → ℕ → ℕ → ℕ → CallRequ
 requestAt s session template identifier attribute = record {
   endpoint = endpointAt s session;
   sender = senderAt s template;
-  call = record { 0 = callAt s session };
+  call = record { 0 = callIdAt s session };
   name = record { at = attribute + 8; size = nameLength s attribute };
-  id = record { epoch = be24At s (identifier + 5); identifier = be32At s (identifier + 8) };
+  sequence = record { epoch = be24At s (identifier + 5); identifier = be32At s (identifier + 8) };
   session = record { at = session; size = 16 };
   attribute = record { at = attribute; size = be16At s attribute };
   template = record { at = template; size = 12 };

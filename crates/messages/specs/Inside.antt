@@ -1,6 +1,6 @@
 -- What a message that was read has: its parts lie within it, with the sizes that a reply relies on, a request names a
--- call, and where the message is a byte string the IDs have sixteen bits.
-use Prim.Native.Nat.{ℕ, _≤_, _<_}
+-- call, and where the message is a byte string the IDs have sixteen bits and the identifier 32.
+use Prim.Native.Nat.{ℕ, _%_, _≤_, _<_}
 use mathlib.Core.Path.{_≡_}
 use mathlib.Core.List.{List}
 use Rattle.numbers.specs.BigEndian.{Bytes}
@@ -17,19 +17,22 @@ pub record CallInside (s : List ℕ) (r : CallRequest) : Type 0 where
   pub name : Within s (r .name)
   pub sessionSize : r .session .size ≡ 16
   pub templateSize : r .template .size ≡ 12
-  pub attributeSize : r .attribute .size ≤ 40
+  pub attributeLeast : 8 ≤ r .attribute .size
+  pub attributeMost : r .attribute .size ≤ 40
+  pub attributeFours : r .attribute .size % 4 ≡ 0
   pub nameSome : 0 < r .name .size
   pub nameMost : r .name .size ≤ 32
   pub callSome : 0 < r .call .0
   pub callFits : Bytes s → r .call .0 < 0x10000
+  pub identifierFits : Bytes s → r .sequence .identifier < 0x100000000
 
 pub record ConnectionInside (s : List ℕ) (c : Connection) : Type 0 where
   pub session : Within s (c .session)
   pub template : Within s (c .template)
   pub sessionSize : c .session .size ≡ 16
   pub templateSize : c .template .size ≡ 12
-  pub tunnelFits : Bytes s → c .tunnel .0 < 0x10000
-  pub lspFits : Bytes s → c .lsp .0 < 0x10000
+  pub tunnelFits : Bytes s → c .lsp .tunnel .0 < 0x10000
+  pub lspFits : Bytes s → c .lsp .lsp .0 < 0x10000
 
 abbrev pub Inside : List ℕ → Message → Type 0
 Inside s (Open r) = CallInside s r

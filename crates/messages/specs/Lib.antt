@@ -4,3 +4,4 @@ pub mod Counts
 pub mod Fields
 pub mod Read
 pub mod Inside
+pub mod Claims

@@ -23,7 +23,7 @@ use Rattle.messages.specs.declared.read.Reading.the-variants.{Refused, U
 use Rattle.messages.specs.Header.{headerOf}
 use Rattle.messages.specs.Status.{bitSet, reflectBit, callBit, deleteBit}
 use Rattle.messages.specs.Counts.{notifyComplete, pathComplete}
-use Rattle.messages.specs.Fields.{callAt, senderAt, connectionAt, requestAt}
+use Rattle.messages.specs.Fields.{callIdAt, senderAt, connectionIn, requestAt}
 
 abbrev pub statusAt : List ℕ → ℕ → ℕ
 statusAt s status = be32At s (status + 4)
@@ -35,7 +35,7 @@ isCallRequest s status error =
 
 -- 13: Call ID 0, or name length 0 or above 32
 unfoldable pub badIdentity : List ℕ → ℕ → ℕ → Bool
-badIdentity s session attribute = eqb (callAt s session) 0 || eqb (nameLength s attribute) 0 || ltb 32 (nameLength s attribute)
+badIdentity s session attribute = eqb (callIdAt s session) 0 || eqb (nameLength s attribute) 0 || ltb 32 (nameLength s attribute)
 
 -- a Notify: D set closes a call, D clear opens one
 unfoldable pub notifyOf : List ℕ → Objects → Reading
@@ -52,8 +52,8 @@ unfoldable pub pathOf : List ℕ → Objects → Bool → Reading
 pathOf s v adds =
     cond (not (pathComplete v)) (Refused ObjectCount 0 (v .headers))
     (cond adds
-    (Read (Add (connectionAt s (v .session .at) (v .template .at))) (v .headers))
-    (Read (Drop (connectionAt s (v .session .at) (v .template .at))) (v .headers)))
+    (Read (Add (connectionIn s (v .session .at) (v .template .at))) (v .headers))
+    (Read (Drop (connectionIn s (v .session .at) (v .template .at))) (v .headers)))
 
 -- a message whose objects have all been walked over
 abbrev pub objectsRead : List ℕ → MessageType → Objects → Reading

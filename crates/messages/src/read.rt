@@ -4,7 +4,7 @@ ghost use mathlib.Core.Bool.{true, false};
 ghost use Prim.Native.Nat.{_+_, _≤_};
 ghost use lib.ListN.{length};
 ghost use Rattle.objects.specs.Placed.{Placed};
-ghost use Rattle.messages.specs.Fields.{connectionAt, requestAt};
+ghost use Rattle.messages.specs.Fields.{connectionIn, requestAt};
 ghost use Rattle.messages.specs.Counts.{notifyComplete, pathComplete};
 ghost use Rattle.messages.specs.Read.{isCallRequest, badIdentity, notifyOf, pathOf, objectsRead, readOf};
 use crate::header::Header;
@@ -12,6 +12,7 @@ use crate::header::MessageType;
 use crate::header::read_header;
 use crate::message::CallRequest;
 use crate::message::Connection;
+use crate::message::Lsp;
 use crate::message::Message;
 use crate::status::C;
 use crate::status::D;
@@ -77,15 +78,18 @@ fn path_complete(v: Objects) -> bool
 // Here and below, the objects lie within the message: the walk promises that of those it has seen.
 fn connection_at(s: &[u8], session: usize, template: usize) -> Connection
     requires { ⌜ (session + 16 ≤ length (now s)) × (template + 12 ≤ length (now s)) ⌝ }
-    ensures { λ r. ⌜ r ≡ connectionAt (now (s .entry)) session template ⌝ }
+    ensures { λ r. ⌜ r ≡ connectionIn (now (s .entry)) session template ⌝ }
 {
-    Connection {
+    let lsp = Lsp {
         endpoint: get32(s, session + 4),
-        sender: get32(s, template + 4),
-        call: CallId(get16(s, session + 8)),
         tunnel: TunnelId(get16(s, session + 10)),
         extended: get32(s, session + 12),
+        sender: get32(s, template + 4),
         lsp: LspId(get16(s, template + 10)),
+    };
+    Connection {
+        call: CallId(get16(s, session + 8)),
+        lsp,
         session: Part {
             at: session,
             size: 16,
@@ -115,7 +119,7 @@ fn request_at(
             at: attribute + 8,
             size: to_usize(s[attribute + 7]),
         },
-        id: MessageId {
+        sequence: MessageId {
             epoch: get24(s, identifier + 5),
             identifier: get32(s, identifier + 8),
         },

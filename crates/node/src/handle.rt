@@ -4,8 +4,9 @@ ghost use mathlib.Core.Bool.{true};
 ghost use Prim.Native.Nat.{_≤_};
 ghost use lib.ListN.{length};
 ghost use Rattle.messages.specs.Inside.{Inside};
+ghost use Rattle.reply_objects.specs.Buffer.{leastBuffer};
 ghost use Rattle.table.specs.Lists.{roster};
-ghost use Rattle.table.specs.Share.{listed};
+ghost use Rattle.table.specs.Share.{isListed};
 ghost use Rattle.table.specs.Rules.{rulesHold};
 ghost use Rattle.table.specs.Words.{tableOf};
 ghost use Rattle.spec_calls.specs.Form.{senderOf};
@@ -22,6 +23,7 @@ use messages::read::Reading;
 use messages::read::read;
 use outcomes::outcome::Outcome;
 use outcomes::outcome::unanswered;
+use reply_objects::LEAST_BUFFER;
 use rules::rules_hold;
 use table::layout::Words;
 
@@ -31,14 +33,14 @@ fn sender_of(m: Message) -> u32
     match m {
         Message::Open(q) => q.sender,
         Message::Close(q) => q.sender,
-        Message::Add(c) => c.sender,
-        Message::Drop(c) => c.sender,
+        Message::Add(c) => c.lsp.sender,
+        Message::Drop(c) => c.lsp.sender,
     }
 }
 
 // A message of no fault, by its kind.
 fn handle_message(t: &mut Words, msg: &[u8], m: Message, reply: &mut [u8]) -> Outcome
-    requires { ⌜ (rulesHold (tableOf (now t)) ≡ true) × (listed (roster (tableOf (now t))) (senderOf m) ≡ true) × Inside (now msg) m × (128 ≤ length (now reply)) ⌝ }
+    requires { ⌜ (rulesHold (tableOf (now t)) ≡ true) × (isListed (roster (tableOf (now t))) (senderOf m) ≡ true) × Inside (now msg) m × (leastBuffer ≤ length (now reply)) ⌝ }
     ensures { λ r. ⌜ handedBack r (tableOf (now (t .exit))) (now (reply .exit)) ≡ ruled (tableOf (now (t .entry))) (now (msg .entry)) (now (reply .entry)) m ⌝ }
 {
     match m {
@@ -54,7 +56,7 @@ fn handle_checked(t: &mut Words, msg: &[u8], reply: &mut [u8]) -> Outcome
     requires { ⌜ rulesHold (tableOf (now t)) ≡ true ⌝ }
     ensures { λ r. ⌜ handedBack r (tableOf (now (t .exit))) (now (reply .exit)) ≡ handled (tableOf (now (t .entry))) (now (msg .entry)) (now (reply .entry)) ⌝ }
 {
-    if reply.len() < 128 {
+    if reply.len() < LEAST_BUFFER {
         return unanswered(Answer::BufferTooSmall);
     }
     let x = read(msg);

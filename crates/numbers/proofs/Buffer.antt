@@ -6,7 +6,7 @@ use native.Mathlib.Omega.{arith}
 use mathlib.Core.Path.{_≡_, refl, sym, ap, _∙_}
 use mathlib.Core.List.{List, [], _∷_, _++_, append-assoc, append-nil}
 use lib.ListN.{length, take, drop, set, length-append, length-drop, length-set}
-use lib.Seq.{sets, set-append-left, sets-eq, take-length, take-at, drop-at, drop-drop, drop-length}
+use lib.Seq.{sets, set-append-left, sets-eq, take-length, take-at, drop-at, drop-drop, drop-length, drop-append-seam}
 use Rattle.numbers.specs.Buffer.{atFront}
 
 -- stores one behind the other from the front
@@ -22,6 +22,15 @@ front-length bs l h = simp (length-append, length-drop) (omega arith)
 pub front-taken : (bs l : List ℕ) (n : ℕ) → length bs ≡ n → take n (atFront bs l) ≡ bs
 unfolding atFront
 front-taken bs l n e = take-at bs (drop (length bs) l) n e
+
+-- what lies behind it is what lay there
+pub front-dropped : (bs l : List ℕ) → drop (length bs) (atFront bs l) ≡ drop (length bs) l
+unfolding atFront
+front-dropped bs l = drop-append-seam bs (drop (length bs) l)
+
+pub nothing-written : (l : List ℕ) → atFront [] l ≡ l
+unfolding atFront
+nothing-written l = refl
 
 -- what a slice holds that lent its part from a and has it back at ys
 abbrev pub backAt : List ℕ → ℕ → List ℕ → List ℕ

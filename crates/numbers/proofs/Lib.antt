@@ -1,3 +1,4 @@
 pub mod BigEndian
 pub mod Buffer
 pub mod Exchange
+pub mod Sum

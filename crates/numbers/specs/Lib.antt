@@ -2,3 +2,4 @@ pub mod BigEndian
 pub mod Buffer
 pub mod Checksum
 pub mod Search
+pub mod Claims

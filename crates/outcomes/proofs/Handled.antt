@@ -12,13 +12,14 @@ use Rattle.messages.specs.declared.message.Message.{Message}
 use Rattle.messages.specs.declared.message.Message.the-variants.{Open, Close, Add, Drop}
 use Rattle.messages.specs.declared.read.Reading.the-variants.{Refused, Unfit, Read}
 use Rattle.messages.specs.Read.{readOf}
+use Rattle.reply_objects.specs.Buffer.{leastBuffer}
 use Rattle.table.specs.Table.{Table}
 use Rattle.table.specs.Lists.{Terms, roster}
-use Rattle.table.specs.Share.{listed}
+use Rattle.table.specs.Share.{isListed}
 use Rattle.table.specs.Rules.{rulesHold}
 use Rattle.answers.specs.declared.answer.Answer.{Answer}
 use Rattle.answers.specs.declared.answer.Answer.the-variants.{TableBroken, BufferTooSmall, Malformed, SenderNotListed}
-use Rattle.spec_calls.specs.Form.{Form, faulty, sound, senderOf, listedOr11, leastBuffer, formOf}
+use Rattle.spec_calls.specs.Form.{Form, faulty, sound, senderOf, listedOr11, formOf}
 use Rattle.spec_calls.specs.Handling.{answerOf, formTable, tableAfter, formReply, replyAfter, handled}
 use Rattle.outcomes.specs.Outcomes.{left, ruled}
 
@@ -61,18 +62,18 @@ module _ (r : List Terms) (s : List ℕ) (room : ℕ) (h : leastBuffer ≤ room)
   unfolding formOf
   form-refused fault offset headers e = rw (le-ltb room leastBuffer h, e)
 
-  pub form-unfit : (fault : Fault) (sender headers : ℕ) → readOf s ≡ Unfit fault sender headers → listed r sender ≡ true → formOf r s room ≡ faulty (Malformed fault)
+  pub form-unfit : (fault : Fault) (sender headers : ℕ) → readOf s ≡ Unfit fault sender headers → isListed r sender ≡ true → formOf r s room ≡ faulty (Malformed fault)
   unfolding formOf listedOr11
   form-unfit fault sender headers e k = rw (le-ltb room leastBuffer h, e, k)
 
-  pub form-unfit-unlisted : (fault : Fault) (sender headers : ℕ) → readOf s ≡ Unfit fault sender headers → listed r sender ≡ false → formOf r s room ≡ faulty SenderNotListed
+  pub form-unfit-unlisted : (fault : Fault) (sender headers : ℕ) → readOf s ≡ Unfit fault sender headers → isListed r sender ≡ false → formOf r s room ≡ faulty SenderNotListed
   unfolding formOf listedOr11
   form-unfit-unlisted fault sender headers e k = rw (le-ltb room leastBuffer h, e, k)
 
-  pub form-sound : (m : Message) (headers : ℕ) → readOf s ≡ Read m headers → listed r (senderOf m) ≡ true → formOf r s room ≡ sound m
+  pub form-sound : (m : Message) (headers : ℕ) → readOf s ≡ Read m headers → isListed r (senderOf m) ≡ true → formOf r s room ≡ sound m
   unfolding formOf listedOr11
   form-sound m headers e k = rw (le-ltb room leastBuffer h, e, k)
 
-  pub form-unlisted : (m : Message) (headers : ℕ) → readOf s ≡ Read m headers → listed r (senderOf m) ≡ false → formOf r s room ≡ faulty SenderNotListed
+  pub form-unlisted : (m : Message) (headers : ℕ) → readOf s ≡ Read m headers → isListed r (senderOf m) ≡ false → formOf r s room ≡ faulty SenderNotListed
   unfolding formOf listedOr11
   form-unlisted m headers e k = rw (le-ltb room leastBuffer h, e, k)

@@ -5,6 +5,7 @@ ghost use Prim.Native.Nat.{_≤_};
 ghost use lib.ListN.{length};
 ghost use Rattle.numbers.specs.Buffer.{atFront};
 ghost use Rattle.messages.specs.Inside.{CallInside, ConnectionInside};
+ghost use Rattle.reply_objects.specs.Buffer.{leastBuffer};
 ghost use Rattle.replies.specs.Messages.{notifyBytes, pathErrBytes};
 ghost use Rattle.spec_calls.specs.Handling.{errorFor, notifyFor, pathErrFor};
 use answers::answer::Answer;
@@ -40,11 +41,11 @@ pub fn send_notify(
     a: Answer,
     reply: &mut [u8],
 ) -> usize
-    requires { ⌜ CallInside (now msg) q × (128 ≤ length (now reply)) ⌝ }
+    requires { ⌜ CallInside (now msg) q × (leastBuffer ≤ length (now reply)) ⌝ }
     ensures { λ r. ⌜ (r ≡ length (notifyBytes (now (msg .entry)) (notifyFor node own q status a))) × (now (reply .exit) ≡ atFront (notifyBytes (now (msg .entry)) (notifyFor node own q status a)) (now (reply .entry))) ⌝ }
 {
     let error = error_for(node, a);
-    let acknowledged = q.id;
+    let acknowledged = q.sequence;
     let session = q.session;
     let attribute = q.attribute;
     let template = q.template;
@@ -61,7 +62,7 @@ pub fn send_notify(
 }
 
 pub fn send_path_err(node: u32, msg: &[u8], c: Connection, a: Answer, reply: &mut [u8]) -> usize
-    requires { ⌜ ConnectionInside (now msg) c × (128 ≤ length (now reply)) ⌝ }
+    requires { ⌜ ConnectionInside (now msg) c × (leastBuffer ≤ length (now reply)) ⌝ }
     ensures { λ r. ⌜ (r ≡ length (pathErrBytes (now (msg .entry)) (pathErrFor node c a))) × (now (reply .exit) ≡ atFront (pathErrBytes (now (msg .entry)) (pathErrFor node c a)) (now (reply .entry))) ⌝ }
 {
     let error = error_for(node, a);

@@ -2,3 +2,4 @@ pub mod Lengths
 pub mod Filled
 pub mod Written
 pub mod WorkedExample
+pub mod Sums

@@ -1,5 +1,5 @@
 -- The bytes of the two messages that the node sends, objects in the order of 01, Reply bytes.
-use Prim.Native.Nat.{ℕ, _+_, _≤_}
+use Prim.Native.Nat.{ℕ, _+_, _%_, _≤_}
 use mathlib.Core.Path.{_≡_}
 use mathlib.Core.List.{List, _++_}
 use lib.ListN.{length}
@@ -9,6 +9,7 @@ use Rattle.replies.specs.declared.path_err.PathErr.{PathErr}
 use Rattle.replies.specs.declared.notify.Notify.{Notify}
 use Rattle.reply_objects.specs.Objects.{identifierBytes, errorSpecBytes, adminStatusBytes}
 use Rattle.reply_objects.specs.Header.{headerBytes, withChecksum}
+use Rattle.reply_objects.specs.Buffer.{leastBuffer}
 
 -- a message's header, with the length of the whole, and its objects
 abbrev pub beforeChecksum : ℕ → List ℕ → List ℕ
@@ -38,13 +39,13 @@ unfoldable pub notifyBytes : List ℕ → Notify → List ℕ
 notifyBytes msg n = withChecksum (notifyBeforeChecksum msg n)
 
 -- what the writers ask: the parts are a SESSION, a SENDER_TEMPLATE and a SESSION_ATTRIBUTE with a name of up to 32
--- bytes, within the message, and the buffer has the 128 bytes of answer 2
+-- bytes, each of a size that 01's table gives, within the message, and the buffer has the room of answer 2
 pub record PathErrFits (msg : List ℕ) (e : PathErr) (reply : List ℕ) : Type 0 where
   pub session : Within msg (e .session)
   pub template : Within msg (e .template)
   pub sessionSize : e .session .size ≡ 16
   pub templateSize : e .template .size ≡ 12
-  pub room : 128 ≤ length reply
+  pub room : leastBuffer ≤ length reply
 
 pub record NotifyFits (msg : List ℕ) (n : Notify) (reply : List ℕ) : Type 0 where
   pub session : Within msg (n .session)
@@ -52,5 +53,7 @@ pub record NotifyFits (msg : List ℕ) (n : Notify) (reply : List ℕ) : Type 0 
   pub attribute : Within msg (n .attribute)
   pub sessionSize : n .session .size ≡ 16
   pub templateSize : n .template .size ≡ 12
-  pub attributeSize : n .attribute .size ≤ 40
-  pub room : 128 ≤ length reply
+  pub attributeLeast : 8 ≤ n .attribute .size
+  pub attributeMost : n .attribute .size ≤ 40
+  pub attributeFours : n .attribute .size % 4 ≡ 0
+  pub room : leastBuffer ≤ length reply

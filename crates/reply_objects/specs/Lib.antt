@@ -1,2 +1,4 @@
 pub mod Objects
 pub mod Header
+pub mod Buffer
+pub mod Claims

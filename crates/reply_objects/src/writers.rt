@@ -7,7 +7,7 @@ ghost use mathlib.Core.Path.{_≡_};
 ghost use Prim.Native.Nat.{_≤_};
 ghost use lib.ListN.{length, take};
 ghost use lib.Seq.{sets};
-ghost use Rattle.numbers.specs.BigEndian.{bytes16};
+ghost use Rattle.numbers.specs.BigEndian.{be16At, bytes16};
 ghost use Rattle.numbers.specs.Buffer.{atFront};
 ghost use Rattle.objects.specs.Part.{partOf, Within};
 ghost use Rattle.objects.specs.Classes.{messageId, messageIdAck};
@@ -115,9 +115,10 @@ pub fn put_received(out: &mut [u8], msg: &[u8], p: Part) -> usize
     size
 }
 
-// Fills the checksum field of the message of n bytes at the front of a reply buffer.
+// Fills the checksum field of the message of n bytes at the front of a reply buffer. The field is free, as `put_header`
+// leaves it: what stood there would be counted.
 pub fn fill_checksum(reply: &mut [u8], n: usize)
-    requires { ⌜ (8 ≤ n) × (n ≤ 65535) × (n ≤ length (now reply)) ⌝ }
+    requires { ⌜ (8 ≤ n) × (n ≤ 65535) × (n ≤ length (now reply)) × (be16At (now reply) 2 ≡ 0) ⌝ }
     ensures { λ _. ⌜ now (reply .exit) ≡ sets (now (reply .entry)) 2 (bytes16 (checksumOf (take n (now (reply .entry))))) ⌝ }
 {
     let sum = words_sum(&reply[..n]);

@@ -4,7 +4,7 @@
 ghost use mathlib.Core.Path.{_≡_};
 ghost use Prim.Native.Nat.{_≤_, _<_, min};
 ghost use Rattle.table.specs.Total.{total};
-ghost use Rattle.table_words.specs.Fours.{Inside};
+ghost use Rattle.table_words.specs.Fours.{FourInside};
 use checkpoint_read::read_checkpoint;
 use libc::STDIN_FILENO;
 use libc::STDOUT_FILENO;
@@ -29,6 +29,10 @@ use table_words::head::occupied;
 use table_words::names::name_byte;
 use table_words::names::name_size;
 
+// One byte more than the longest copy has, 4 + 55 * 4095 + 18 * 65535. So what is kept of a longer frame has a length
+// that no counts give, and is answered as the whole: 70.
+const COPY: usize = 1404860;
+
 enum Frame {
     Cut,
     Whole(usize),
@@ -40,7 +44,7 @@ fn smaller(a: usize, b: usize) -> usize
     if a < b { a } else { b }
 }
 
-// Reads over what does not fit the space: no roster is so long, and no table writes so long a copy.
+// Reads over what does not fit the space: no roster and no copy that is accepted is so long.
 fn skip(size: usize) -> bool {
     let mut left = size;
     while 0 < left {
@@ -127,7 +131,7 @@ fn print_connection(call: CallWord, sender: u32, endpoint: u32, p: PlaceWords) {
 }
 
 fn print_four(t: &Words, f: FourPlace)
-    requires { ⌜ Inside f ⌝ }
+    requires { ⌜ FourInside f ⌝ }
 {
     let mut j: usize = 0;
     while j < 4 {
@@ -195,7 +199,7 @@ fn read_parts(salvage: bool, roster: &[u8], listed: usize, copy: &[u8], copied: 
 }
 
 // The three frames; false where one is cut.
-fn read_frames(mode: &mut [u8], roster: &mut [u8], copy: &mut [u8]) -> bool {
+fn read_frames(mode: &mut [u8], roster: &mut [u8], copy: &mut [u8; COPY]) -> bool {
     let a = next_frame(mode);
     let Frame::Whole(_) = a else {
         return false;
@@ -215,7 +219,7 @@ fn read_frames(mode: &mut [u8], roster: &mut [u8], copy: &mut [u8]) -> bool {
 fn main() {
     let mut mode = [0u8; 1];
     let mut roster = io::buffer();
-    let mut copy = io::large_buffer();
+    let mut copy = [0u8; COPY];
     if !read_frames(&mut mode, &mut roster, &mut copy) {
         print_text(b"cut\n");
     }

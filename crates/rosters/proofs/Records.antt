@@ -12,7 +12,7 @@ use lib.ListN.{set, replicate}
 use borrow.Author.Tests.{eq-eqb, ne-eqb, ltb-true, ltb-false, lt-ltb, le-ltb}
 use Rattle.numbers.specs.BigEndian.{be16At, be24At, be32At}
 use Rattle.lists.specs.Count.{has}
-use Rattle.lists.specs.Below.{when, below}
+use Rattle.lists.specs.Below.{elementIf, below}
 use Rattle.lists.proofs.Below.{set-each, getD-each, sum-turn}
 use Rattle.table.specs.declared.answer.RosterAnswer.{RosterAnswer}
 use Rattle.table.specs.declared.answer.RosterAnswer.the-variants.{Accepted, SpareBits, Share, Repeated, Guarantees}
@@ -84,7 +84,7 @@ no-guarantees s = refl
 
 pub one-more-guarantee : (s : List ℕ) (k sum word : ℕ) → word ≡ be16At s (12 + 6 * k) → sum ≡ guarantees (recordsIn s k)
     → sum + word / 512 ≡ guarantees (recordsIn s (k + 1))
-unfolding when
+unfolding elementIf
 one-more-guarantee s k sum word e h = sum-turn (λ j. termsIn s j ∷ []) (λ c. c .guarantee) k sum (word / 512) true (termsIn s k) refl h (rw e)
 
 -- ---- the answer from record k on, of n: by that record's three tests, and after the last record by the sum

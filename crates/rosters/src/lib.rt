@@ -110,7 +110,7 @@ pub fn read_roster(t: &mut Words, s: &[u8]) -> RosterAnswer
     }
     let n = s[0] % 16;
     if (s[0] / 16 != 1) | (n == 0) | (8 < n) {
-        return RosterAnswer::Form;
+        return RosterAnswer::BadForm;
     }
     if s.len() != 8 + 6 * (n as usize) {
         return RosterAnswer::Length;

@@ -1,20 +1,19 @@
 -- Fingerprints noted in an array: a fingerprint stays noted, and a list of fingerprints is noted whole.
 -- Assumes nothing.
-use Prim.Native.Nat.{ℕ, zero, suc, _*_, _/_, _%_, _^_, _<_}
+use Prim.Native.Nat.{ℕ, zero, suc, _*_, _/_, _%_, _<_}
 use native.Mathlib.Omega.{arith}
 use mathlib.Core.Path.{_≡_, refl, sym, ap, _∙_}
 use mathlib.Core.List.{List, [], _∷_, _++_}
-use mathlib.Core.Bool.{Bool, true, false, true≢false, cond, not, _||_}
+use mathlib.Core.Bool.{Bool, true, false, not, _||_}
 use lib.Dec.{eqb, ltb}
-use lib.Bits.{bitXor}
 use lib.ListN.{length, getD, set, length-set}
 use lib.Seq.{getD-set-same}
-use borrow.Author.Tests.{eqb-true, ltb-true}
+use borrow.Author.Tests.{eqb-true, eqb-false, ltb-true}
 use Rattle.lists.specs.Count.{has}
 use Rattle.lists.specs.Pairs.{meet}
 use Rattle.lists.proofs.Count.{has-append, has-cons, has-less}
-use Rattle.table.specs.Word.{isUsed, flipped}
-use Rattle.table.proofs.Slots.{flipped-free, flipped-other}
+use Rattle.table.specs.Word.{isUsed, withUsed}
+use Rattle.table.proofs.Slots.{used-here, used-other}
 use Rattle.rule_fingerprints.specs.Fingerprints.{isNoted, notedOne, noted}
 
 -- a fingerprint that is not noted
@@ -42,24 +41,16 @@ set-keeps (y ∷ l) zero (suc j) x b h k = h
 set-keeps (y ∷ l) (suc i) zero x b h k = h
 set-keeps (y ∷ l) (suc i) (suc j) x b h k = set-keeps l i j x b h (λ e. k (ap suc e))
 
-flip-keeps : (w i j : ℕ) → isUsed w i ≡ false → isUsed w j ≡ true → isUsed (flipped w i) j ≡ true
-flip-keeps w i j f h = flipped-other w i j (λ e. true≢false (sym h ∙ rw e f)) ∙ h
+used-keeps : (w i j : ℕ) → isUsed w j ≡ true → isUsed (withUsed w i) j ≡ true
+used-keeps w i j h = by (eqb j i) refl
+  where
+    by : (b : Bool) → eqb j i ≡ b → isUsed (withUsed w i) j ≡ true
+    by true e = rw (eqb-true j i e) (used-here w i)
+    by false e = used-other w i j (eqb-false j i e) ∙ h
 
 one-keeps : (l : List ℕ) (k m : ℕ) → isNoted l m ≡ true → isNoted (notedOne l k) m ≡ true
 unfolding notedOne
-one-keeps l k m h = by (isNoted l k) refl
-  where
-    by : (b : Bool) → isNoted l k ≡ b → isNoted (cond b l (set l (k / 64) (flipped (getD l (k / 64) 0) (k % 64)))) m ≡ true
-    by true e = h
-    by false e = set-keeps l (k / 64) (m / 64) _ (m % 64) h (λ d. flip-keeps _ (k % 64) (m % 64) e (rw d at h))
-
-pub one-again : (l : List ℕ) (m : ℕ) → isNoted l m ≡ true → l ≡ notedOne l m
-unfolding notedOne
-one-again l m h = rw h
-
-pub one-anew : (l : List ℕ) (m x : ℕ) → isNoted l m ≡ false → x ≡ 2 ^ (m % 64) → set l (m / 64) (bitXor (getD l (m / 64) 0) x) ≡ notedOne l m
-unfolding notedOne
-one-anew l m x h e = rw (h, e)
+one-keeps l k m h = set-keeps l (k / 64) (m / 64) _ (m % 64) h (λ d. used-keeps _ (k % 64) (m % 64) (rw d at h))
 
 -- what is not noted after was not before
 pub one-free : (l : List ℕ) (k m : ℕ) → isNoted (notedOne l k) m ≡ false → isNoted l m ≡ false
@@ -71,19 +62,11 @@ one-free l k m h = by (isNoted l m) refl
 
 one-here : (l : List ℕ) (m : ℕ) → m < 64 * length l → isNoted (notedOne l m) m ≡ true
 unfolding notedOne
-one-here l m h = by (isNoted l m) refl
-  where
-    by : (b : Bool) → isNoted l m ≡ b → isNoted (cond b l (set l (m / 64) (flipped (getD l (m / 64) 0) (m % 64)))) m ≡ true
-    by true e = e
-    by false e = rw (getD-set-same l (m / 64) (flipped (getD l (m / 64) 0) (m % 64)) 0 (omega arith)) (flipped-free (getD l (m / 64) 0) (m % 64) e)
+one-here l m h = rw (getD-set-same l (m / 64) (withUsed (getD l (m / 64) 0) (m % 64)) 0 (omega arith)) (used-here (getD l (m / 64) 0) (m % 64))
 
 one-length : (l : List ℕ) (m : ℕ) → length (notedOne l m) ≡ length l
 unfolding notedOne
-one-length l m = by (isNoted l m)
-  where
-    by : (b : Bool) → length (cond b l (set l (m / 64) (flipped (getD l (m / 64) 0) (m % 64)))) ≡ length l
-    by true = refl
-    by false = length-set l (m / 64) (flipped (getD l (m / 64) 0) (m % 64))
+one-length l m = length-set l (m / 64) (withUsed (getD l (m / 64) 0) (m % 64))
 
 -- ---- a list of fingerprints
 

@@ -9,15 +9,15 @@ use mathlib.Core.List.{List, [], _∷_, _++_, map, map-append, append-nil}
 use mathlib.Core.Bool.{Bool, true, false, _||_}
 use lib.Dec.{eqb}
 use borrow.Author.Tests.{eq-eqb, ne-eqb, eqb-true, lt-ltb}
-use Rattle.lists.specs.Count.{count, has}
-use Rattle.lists.specs.Below.{when, below}
+use Rattle.lists.specs.Count.{countIf, has}
+use Rattle.lists.specs.Below.{elementIf, below}
 use Rattle.lists.specs.Pairs.{meet}
 use Rattle.lists.proofs.Count.{has-cons, has-less, has-nothing}
 use Rattle.lists.proofs.Below.{below-none, below-more}
 use Rattle.lists.proofs.Tests.{both}
 use Rattle.table.specs.Table.{Place, Call}
 use Rattle.table.specs.Lists.{Ids, idsOf, Held, Four, callFour, placeAt, isTaken, connectionAt, heldPlace, heldIn}
-use Rattle.table.specs.Rules.{sameBytes, samePair, sameShort, sameLong, sameLsp}
+use Rattle.table.specs.Rules.{sameBytes, samePair, sameShort, sameLong, sameLsp, sameConnection}
 use Rattle.table.proofs.SameBytes.{same-bytes}
 use Rattle.table_words.specs.Heads.{headOf}
 use Rattle.table_words.specs.Fours.{placeOfWords, Alike}
@@ -43,7 +43,7 @@ long-fingerprint-same c d h =
     let m = both (eqb (c .endpoint) (d .endpoint)) (eqb (c .sender) (d .sender)) (k .0) in
     rw (eqb-true (c .endpoint) (d .endpoint) (m .0), eqb-true (c .sender) (d .sender) (m .1), same-bytes (c .long) (d .long) (k .1))
 
-pub lsp-fingerprint-same : (x y : Held) → sameLsp x y ≡ true → lspFingerprint x ≡ lspFingerprint y
+pub lsp-fingerprint-same : (x y : Held) → sameConnection x y ≡ true → lspFingerprint x ≡ lspFingerprint y
 unfolding sameLsp
 lsp-fingerprint-same x y h =
     let k = both _ (eqb (x .lsp .lspId) (y .lsp .lspId)) h in
@@ -60,7 +60,7 @@ lsp-fingerprint-same x y h =
 
 -- ---- lists of fingerprints
 
-count-mapped {ℓ} : {A : Type ℓ} (p : ℕ → Bool) (f : A → ℕ) (l : List A) → count p (map f l) ≡ count (λ x. p (f x)) l
+count-mapped {ℓ} : {A : Type ℓ} (p : ℕ → Bool) (f : A → ℕ) (l : List A) → countIf p (map f l) ≡ countIf (λ x. p (f x)) l
 count-mapped p f [] = refl
 count-mapped p f (x ∷ l) = rw (count-mapped p f l)
 
@@ -77,7 +77,7 @@ meet-mapped same f (x ∷ l) k h z =
 
 module _ (l : List ℕ) (c d : Call) where
   pub nothing-shared : has (unnoted l) (fingerprintsOf c) ≡ false → has (isNoted l) (fingerprintsOf d) ≡ false
-      → (sameShort (idsOf c) (idsOf d) || sameLong (idsOf c) (idsOf d) || meet sameLsp (heldIn (callFour c)) (heldIn (callFour d))) ≡ false
+      → (sameShort (idsOf c) (idsOf d) || sameLong (idsOf c) (idsOf d) || meet sameConnection (heldIn (callFour c)) (heldIn (callFour d))) ≡ false
   nothing-shared a f =
       let a1 = neither _ _ (sym (has-cons (unnoted l) (shortFingerprint (idsOf c)) (longFingerprint (idsOf c) ∷ map lspFingerprint (heldIn (callFour c)))) ∙ a) in
       let a2 = neither _ _ (sym (has-cons (unnoted l) (longFingerprint (idsOf c)) (map lspFingerprint (heldIn (callFour c)))) ∙ a1 .1) in
@@ -87,7 +87,7 @@ module _ (l : List ℕ) (c d : Call) where
         by (sameShort (idsOf c) (idsOf d)) _ _ (short-fingerprint-same (idsOf c) (idsOf d)) (not-false _ (a1 .0)) (f1 .0),
         by (sameLong (idsOf c) (idsOf d)) _ _ (long-fingerprint-same (idsOf c) (idsOf d)) (not-false _ (a2 .0)) (f2 .0),
       )
-      (meet-mapped sameLsp lspFingerprint (heldIn (callFour c)) (heldIn (callFour d)) lsp-fingerprint-same (no-fingerprint-shared l _ _ (a2 .1) (f2 .1)))
+      (meet-mapped sameConnection lspFingerprint (heldIn (callFour c)) (heldIn (callFour d)) lsp-fingerprint-same (no-fingerprint-shared l _ _ (a2 .1) (f2 .1)))
     where
       by : (b : Bool) (m n : ℕ) → (b ≡ true → m ≡ n) → isNoted l m ≡ true → isNoted l n ≡ false → b ≡ false
       by true m n e p q = let z = e refl in cc
@@ -133,11 +133,11 @@ place-more : (c : Call) (j : ℕ) → lspFingerprints c (j + 1) ≡ lspFingerpri
 place-more c j = rw (below-more (heldPlace (callFour c)) j) (map-append lspFingerprint (below (heldPlace (callFour c)) j) (heldPlace (callFour c) j))
 
 pub place-taken : (c : Call) (j m : ℕ) → m ≡ lspFingerprint (connectionAt (callFour c) j) → isTaken (placeAt (callFour c) j) ≡ true → lspFingerprints c (j + 1) ≡ lspFingerprints c j ++ (m ∷ [])
-unfolding when
+unfolding elementIf
 place-taken c j m e h = place-more c j ∙ rw (h, e)
 
 pub place-free : (c : Call) (j : ℕ) → isTaken (placeAt (callFour c) j) ≡ false → lspFingerprints c (j + 1) ≡ lspFingerprints c j
-unfolding when
+unfolding elementIf
 place-free c j h = place-more c j ∙ rw h (append-nil (lspFingerprints c j))
 
 -- ---- by the words of a place

@@ -3,10 +3,10 @@
 -- number, so that IDs numbered one after another are apart.
 use Prim.Native.Nat.{ℕ, _+_, _*_, _/_, _%_}
 use mathlib.Core.List.{List, [], _∷_, map}
-use mathlib.Core.Bool.{Bool, cond}
+use mathlib.Core.Bool.{Bool}
 use lib.ListN.{getD, set}
 use Rattle.table.specs.Table.{Call}
-use Rattle.table.specs.Word.{isUsed, flipped}
+use Rattle.table.specs.Word.{isUsed, withUsed}
 use Rattle.table.specs.Lists.{Ids, idsOf, Held, callFour, heldIn}
 
 abbrev pub pairNumber : ℕ → ℕ → ℕ
@@ -46,7 +46,7 @@ abbrev pub isNoted : List ℕ → ℕ → Bool
 isNoted l m = isUsed (getD l (m / 64) 0) (m % 64)
 
 unfoldable pub notedOne : List ℕ → ℕ → List ℕ
-notedOne l m = cond (isNoted l m) l (set l (m / 64) (flipped (getD l (m / 64) 0) (m % 64)))
+notedOne l m = set l (m / 64) (withUsed (getD l (m / 64) 0) (m % 64))
 
 unfoldable pub noted : List ℕ → List ℕ → List ℕ
 noted l [] = l

@@ -13,6 +13,7 @@ use crate::fingerprint::name_mixed;
 use crate::fingerprint::short_fingerprint;
 use table::layout::Words;
 use table::word::is_used;
+use table::word::with_used;
 use table_words::calls::call_head;
 use table_words::fours::call_four;
 use table_words::fours::place_words;
@@ -24,11 +25,8 @@ fn note(seen: &mut [u64; 384], m: usize) -> bool
 {
     let word = seen[m / 64];
     let bit = m % 64;
-    if is_used(word, bit) {
-        return true;
-    }
-    seen[m / 64] = word ^ (1u64 << bit);
-    false
+    seen[m / 64] = with_used(word, bit);
+    is_used(word, bit)
 }
 
 // Notes the fingerprints of a slot's call; whoever asks says why the slot is one of the table's. Where it says no, none of

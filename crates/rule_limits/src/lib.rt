@@ -7,7 +7,7 @@ ghost use Rattle.lists.specs.Count.{bit, has};
 ghost use Rattle.table.specs.Total.{total, totalOf};
 ghost use Rattle.table.specs.Word.{isUsed};
 ghost use Rattle.table.specs.Lists.{callAt, roster, entries};
-ghost use Rattle.table.specs.Share.{listed, callsOf, S};
+ghost use Rattle.table.specs.Share.{isListed, callsOf, S};
 ghost use Rattle.table.specs.Rules.{badShare, acceptable, rosterHolds, overLimit, holds, sendersListed, withinLimits, shareWithinTotal};
 ghost use Rattle.table.specs.Words.{tableOf};
 use lists::larger;
@@ -68,7 +68,7 @@ pub fn roster_holds(t: &Words) -> bool
 }
 
 fn is_listed(t: &Words, sender: u32) -> bool
-    ensures { λ r. ⌜ r ≡ listed (roster (tableOf (now (t .entry)))) sender ⌝ }
+    ensures { λ r. ⌜ r ≡ isListed (roster (tableOf (now (t .entry)))) sender ⌝ }
 {
     let listed = listed(t);
     let mut known = false;
@@ -84,7 +84,7 @@ fn is_listed(t: &Words, sender: u32) -> bool
 // A slot with a call whose sender is not listed.
 fn is_unlisted(t: &Words, word: u64, i: usize) -> bool
     requires { ⌜ i < total ⌝ }
-    ensures { λ r. ⌜ r ≡ (isUsed word i && not (listed (roster (tableOf (now (t .entry)))) (callAt (tableOf (now (t .entry))) i .sender))) ⌝ }
+    ensures { λ r. ⌜ r ≡ (isUsed word i && not (isListed (roster (tableOf (now (t .entry)))) (callAt (tableOf (now (t .entry))) i .sender))) ⌝ }
 {
     if is_used(word, i) {
         let c = call_head(t, i);

@@ -9,9 +9,9 @@ ghost use Rattle.lists.specs.Pairs.{meet};
 ghost use Rattle.table.specs.Total.{total, totalOf};
 ghost use Rattle.table.specs.Word.{isUsed};
 ghost use Rattle.table.specs.Lists.{callAt, customerAt, callFour, customerFour, heldIn, heldAt, standaloneAt};
-ghost use Rattle.table.specs.Rules.{sameLsp};
+ghost use Rattle.table.specs.Rules.{sameConnection};
 ghost use Rattle.table.specs.Words.{tableOf};
-ghost use Rattle.table_words.specs.Fours.{fourAtWord, Inside};
+ghost use Rattle.table_words.specs.Fours.{fourAtWord, FourInside};
 use fours::four_once;
 use fours::fours_meet;
 use fours::has_taken;
@@ -40,8 +40,8 @@ fn anew(f: FourPlace) -> FourPlace
 
 // A connection in a slot is also one of the four's. A free slot has none, and a call of another sender none in common.
 fn slot_meets(t: &Words, word: u64, i: usize, g: FourPlace) -> bool
-    requires { ⌜ (i < total) × Inside g ⌝ }
-    ensures { λ r. ⌜ r ≡ (isUsed word i && meet sameLsp (heldIn (callFour (callAt (tableOf (now (t .entry))) i))) (heldIn (fourAtWord (now (t .entry)) g))) ⌝ }
+    requires { ⌜ (i < total) × FourInside g ⌝ }
+    ensures { λ r. ⌜ r ≡ (isUsed word i && meet sameConnection (heldIn (callFour (callAt (tableOf (now (t .entry))) i))) (heldIn (fourAtWord (now (t .entry)) g))) ⌝ }
 {
     if is_used(word, i) {
         let f = call_four(t, i);
@@ -55,8 +55,8 @@ fn slot_meets(t: &Words, word: u64, i: usize, g: FourPlace) -> bool
 
 // A connection under a call is also one of the four's. Where none of the four is taken, the calls need not be looked at.
 fn calls_meet(t: &Words, g: FourPlace) -> bool
-    requires { ⌜ Inside g ⌝ }
-    ensures { λ r. ⌜ r ≡ meet sameLsp (below (heldAt (tableOf (now (t .entry)))) (totalOf (tableOf (now (t .entry))))) (heldIn (fourAtWord (now (t .entry)) g)) ⌝ }
+    requires { ⌜ FourInside g ⌝ }
+    ensures { λ r. ⌜ r ≡ meet sameConnection (below (heldAt (tableOf (now (t .entry)))) (totalOf (tableOf (now (t .entry))))) (heldIn (fourAtWord (now (t .entry)) g)) ⌝ }
 {
     if !has_taken(t, g) {
         return false;
@@ -74,7 +74,7 @@ fn calls_meet(t: &Words, g: FourPlace) -> bool
 // The same, of a customer's four. An unused roster record has no connections.
 fn calls_meet_record(t: &Words, listed: usize, k: usize) -> bool
     requires { ⌜ k < 8 ⌝ }
-    ensures { λ r. ⌜ r ≡ (ltb k listed && meet sameLsp (below (heldAt (tableOf (now (t .entry)))) (totalOf (tableOf (now (t .entry))))) (heldIn (customerFour (customerAt (tableOf (now (t .entry))) k)))) ⌝ }
+    ensures { λ r. ⌜ r ≡ (ltb k listed && meet sameConnection (below (heldAt (tableOf (now (t .entry)))) (totalOf (tableOf (now (t .entry))))) (heldIn (customerFour (customerAt (tableOf (now (t .entry))) k)))) ⌝ }
 {
     if k < listed {
         return calls_meet(t, customer_four(t, k));
@@ -84,7 +84,7 @@ fn calls_meet_record(t: &Words, listed: usize, k: usize) -> bool
 
 // No connection under a call is also one of Call ID 0.
 fn calls_meet_none(t: &Words) -> bool
-    ensures { λ r. ⌜ r ≡ not (meet sameLsp (below (heldAt (tableOf (now (t .entry)))) (totalOf (tableOf (now (t .entry))))) (below (standaloneAt (tableOf (now (t .entry)))) 8)) ⌝ }
+    ensures { λ r. ⌜ r ≡ not (meet sameConnection (below (heldAt (tableOf (now (t .entry)))) (totalOf (tableOf (now (t .entry))))) (below (standaloneAt (tableOf (now (t .entry)))) 8)) ⌝ }
 {
     let listed = listed(t);
     let mut apart = true;
@@ -99,7 +99,7 @@ fn calls_meet_none(t: &Words) -> bool
 // A customer's connections are none of an earlier customer's.
 fn record_apart(t: &Words, listed: usize, i: usize) -> bool
     requires { ⌜ i < 8 ⌝ }
-    ensures { λ r. ⌜ r ≡ everyBelow (λ j. not (ltb j listed && (ltb i listed && meet sameLsp (heldIn (customerFour (customerAt (tableOf (now (t .entry))) j))) (heldIn (customerFour (customerAt (tableOf (now (t .entry))) i)))))) i ⌝ }
+    ensures { λ r. ⌜ r ≡ everyBelow (λ j. not (ltb j listed && (ltb i listed && meet sameConnection (heldIn (customerFour (customerAt (tableOf (now (t .entry))) j))) (heldIn (customerFour (customerAt (tableOf (now (t .entry))) i)))))) i ⌝ }
 {
     if listed <= i {
         return true;
@@ -116,7 +116,7 @@ fn record_apart(t: &Words, listed: usize, i: usize) -> bool
 
 fn record_once(t: &Words, listed: usize, i: usize) -> bool
     requires { ⌜ i < 8 ⌝ }
-    ensures { λ r. ⌜ r ≡ (not (ltb i listed) || noTwo sameLsp (heldIn (customerFour (customerAt (tableOf (now (t .entry))) i)))) ⌝ }
+    ensures { λ r. ⌜ r ≡ (not (ltb i listed) || noTwo sameConnection (heldIn (customerFour (customerAt (tableOf (now (t .entry))) i)))) ⌝ }
 {
     if i < listed {
         return four_once(t, customer_four(t, i));
@@ -126,7 +126,7 @@ fn record_once(t: &Words, listed: usize, i: usize) -> bool
 
 // No two connections of Call ID 0 are alike.
 fn customers_apart(t: &Words) -> bool
-    ensures { λ r. ⌜ r ≡ noTwo sameLsp (below (standaloneAt (tableOf (now (t .entry)))) 8) ⌝ }
+    ensures { λ r. ⌜ r ≡ noTwo sameConnection (below (standaloneAt (tableOf (now (t .entry)))) 8) ⌝ }
 {
     let listed = listed(t);
     let mut apart = true;
@@ -140,7 +140,7 @@ fn customers_apart(t: &Words) -> bool
 
 // What connections of Call ID 0 add to the rule that no connection is held twice.
 pub fn standalone_once(t: &Words) -> bool
-    ensures { λ r. ⌜ r ≡ (noTwo sameLsp (below (standaloneAt (tableOf (now (t .entry)))) 8) && not (meet sameLsp (below (heldAt (tableOf (now (t .entry)))) (totalOf (tableOf (now (t .entry))))) (below (standaloneAt (tableOf (now (t .entry)))) 8))) ⌝ }
+    ensures { λ r. ⌜ r ≡ (noTwo sameConnection (below (standaloneAt (tableOf (now (t .entry)))) 8) && not (meet sameConnection (below (heldAt (tableOf (now (t .entry)))) (totalOf (tableOf (now (t .entry))))) (below (standaloneAt (tableOf (now (t .entry)))) 8))) ⌝ }
 {
     customers_apart(t) & calls_meet_none(t)
 }

@@ -6,14 +6,14 @@ use mathlib.Core.Path.{_≡_, refl, ap}
 use mathlib.Core.List.{List}
 use mathlib.Core.Bool.{Bool, true, false, not, _&&_, _||_, and-assoc}
 use Rattle.lists.specs.Count.{noTwo}
-use Rattle.lists.specs.Below.{when, listIf, below, everyBelow}
+use Rattle.lists.specs.Below.{elementIf, listIf, below, everyBelow}
 use Rattle.lists.specs.Pairs.{meet, pairsBelow}
 use Rattle.lists.proofs.Pairs.{pairs-both, pairs-ext, no-two-places, no-two-lists}
 
 -- three tests of slots at once: two of what a slot has, one of a list that it has
 pub slots-apart {ℓ ℓ′} : {A : Type ℓ} {B : Type ℓ′} (s l : A → A → Bool) (m : B → B → Bool) (u : ℕ → Bool) (x : ℕ → A) (k : ℕ → List B) (n : ℕ)
     → (pairsBelow (λ i j. not (u j && (u i && (s (x j) (x i) || l (x j) (x i) || meet m (k j) (k i))))) n && everyBelow (λ i. not (u i) || noTwo m (k i)) n)
-    ≡ (noTwo s (below (λ i. when (u i) (x i)) n) && noTwo l (below (λ i. when (u i) (x i)) n) && noTwo m (below (λ i. listIf (u i) (k i)) n))
+    ≡ (noTwo s (below (λ i. elementIf (u i) (x i)) n) && noTwo l (below (λ i. elementIf (u i) (x i)) n) && noTwo m (below (λ i. listIf (u i) (k i)) n))
 slots-apart s l m u x k n =
     rw (no-two-places s u x n, no-two-places l u x n, no-two-lists m u k n, ← (and-assoc _ _ _), ← (pairs-both _ _ n), ← (pairs-both _ _ n))
     (ap (λ b. b && everyBelow (λ i. not (u i) || noTwo m (k i)) n)

@@ -9,12 +9,12 @@ use Rattle.lists.specs.Pairs.{meet}
 use Rattle.lists.proofs.Pairs.{meet-never}
 use Rattle.table.specs.Table.{Call}
 use Rattle.table.specs.Lists.{idsOf, Held, callFour, placeAt, isTaken, connectionAt, heldIn}
-use Rattle.table.specs.Rules.{sameBytes, samePair, sameShort, sameLong, sameLsp}
+use Rattle.table.specs.Rules.{sameBytes, samePair, sameShort, sameLong, sameLsp, sameConnection}
 use Rattle.table_words.specs.Heads.{headOf}
 use Rattle.table_words.specs.declared.calls.CallHead.{CallHead}
 use Rattle.rule_uniqueness.specs.Conflict.{conflict}
 
-other-pair : (x y : Held) → (eqb (x .lsp .endpoint) (y .lsp .endpoint) && eqb (x .lsp .sender) (y .lsp .sender)) ≡ false → sameLsp x y ≡ false
+other-pair : (x y : Held) → (eqb (x .lsp .endpoint) (y .lsp .endpoint) && eqb (x .lsp .sender) (y .lsp .sender)) ≡ false → sameConnection x y ≡ false
 unfolding sameLsp
 other-pair x y h = rw h
 
@@ -23,7 +23,7 @@ module _ (c d : Call) (b e : CallHead) (p : b ≡ headOf c) (q : e ≡ headOf d)
   pub two-pairs : (b .endpoint ≡ e .endpoint → b .sender ≡ e .sender → ⊥) → false ≡ conflict c d
   unfolding sameShort sameLong
   two-pairs n =
-      sym (rw (pair, meet-never sameLsp (λ j. isTaken (placeAt (callFour c) j)) (λ j. isTaken (placeAt (callFour d) j)) (connectionAt (callFour c)) (connectionAt (callFour d)) 4 4 (λ i k. other-pair _ _ pair)))
+      sym (rw (pair, meet-never sameConnection (λ j. isTaken (placeAt (callFour c) j)) (λ j. isTaken (placeAt (callFour d) j)) (connectionAt (callFour c)) (connectionAt (callFour d)) 4 4 (λ i k. other-pair (connectionAt (callFour c) i) (connectionAt (callFour d) k) pair)))
     where
       by : (s t : Bool) → eqb (c .endpoint) (d .endpoint) ≡ s → eqb (c .sender) (d .sender) ≡ t → (s && t) ≡ false
       by true true x y = absurd (n (ap (λ (h : CallHead). h .endpoint) p ∙ eqb-true _ _ x ∙ sym (ap (λ (h : CallHead). h .endpoint) q)) (ap (λ (h : CallHead). h .sender) p ∙ eqb-true _ _ y ∙ sym (ap (λ (h : CallHead). h .sender) q)))
@@ -34,10 +34,10 @@ module _ (c d : Call) (b e : CallHead) (p : b ≡ headOf c) (q : e ≡ headOf d)
       pair = by (eqb (c .endpoint) (d .endpoint)) (eqb (c .sender) (d .sender)) refl refl
 
   -- those of one pair what the three tests find
-  pub one-pair : (n m : Bool) → b .endpoint ≡ e .endpoint → b .sender ≡ e .sender → n ≡ sameBytes (take (c .size) (c .name)) (take (d .size) (d .name))
-      → m ≡ meet sameLsp (heldIn (callFour c)) (heldIn (callFour d)) → (eqb (b .id .0) (e .id .0) || n || m) ≡ conflict c d
+  pub one-pair : (a n m : Bool) → b .endpoint ≡ e .endpoint → b .sender ≡ e .sender → a ≡ eqb (b .id .0) (e .id .0) → n ≡ sameBytes (take (c .size) (c .name)) (take (d .size) (d .name))
+      → m ≡ meet sameConnection (heldIn (callFour c)) (heldIn (callFour d)) → (a || n || m) ≡ conflict c d
   unfolding sameShort sameLong
-  one-pair n m x y h k =
+  one-pair a n m x y g h k =
       let i : c .endpoint ≡ d .endpoint = sym (ap (λ (h : CallHead). h .endpoint) p) ∙ x ∙ ap (λ (h : CallHead). h .endpoint) q in
       let j : c .sender ≡ d .sender = sym (ap (λ (h : CallHead). h .sender) p) ∙ y ∙ ap (λ (h : CallHead). h .sender) q in
-      rw (h, k, p, q, eq-eqb (c .endpoint) (d .endpoint) i, eq-eqb (c .sender) (d .sender) j)
+      rw (g, h, k, p, q, eq-eqb (c .endpoint) (d .endpoint) i, eq-eqb (c .sender) (d .sender) j)

@@ -17,7 +17,7 @@ use Rattle.lists.proofs.Pairs.{every-ext, outer-turn-both}
 use Rattle.table.specs.Table.{Table}
 use Rattle.table.specs.Word.{isUsed}
 use Rattle.table.specs.Lists.{callAt, callFour, heldIn}
-use Rattle.table.specs.Rules.{sameLsp}
+use Rattle.table.specs.Rules.{sameConnection}
 use Rattle.rule_fingerprints.specs.Fingerprints.{fingerprintsOf, isNoted, noted}
 use Rattle.rule_fingerprints.proofs.Noted.{noted-length, all-noted, all-noted-after}
 use Rattle.rule_fingerprints.proofs.Shared.{nothing-shared, fingerprints-inside}
@@ -56,7 +56,7 @@ module _ (word : ℕ) (t : Table) (i : ℕ) where
   pub slot-free : isUsed word i ≡ false → true ≡ (everyBelow (apartAt word t i) i && onceAt word t i)
   slot-free h = sym (rw (every-within (apartAt word t i) i (λ j b. rw (h, and-false (isUsed word j))), h))
 
-  module _ (once : Bool) (h : isUsed word i ≡ true) (held : once ≡ noTwo sameLsp (heldIn (callFour (callAt t i)))) where
+  module _ (once : Bool) (h : isUsed word i ≡ true) (held : once ≡ noTwo sameConnection (heldIn (callFour (callAt t i)))) where
     q : once ≡ onceAt word t i
     q = rw h held
 

@@ -7,7 +7,7 @@ ghost use Rattle.lists.specs.Below.{below, everyBelow};
 ghost use Rattle.table.specs.Total.{total, totalOf};
 ghost use Rattle.table.specs.Word.{isUsed};
 ghost use Rattle.table.specs.Lists.{callAt, heldAt};
-ghost use Rattle.table.specs.Rules.{sameLsp, holds, shortIdsOnce, longIdsOnce};
+ghost use Rattle.table.specs.Rules.{sameConnection, holds, shortIdsOnce, longIdsOnce};
 ghost use Rattle.table.specs.Words.{tableOf};
 ghost use Rattle.rule_fingerprints.specs.Fingerprints.{fingerprintsOf, noted};
 ghost use Rattle.rule_uniqueness.specs.Conflict.{conflict, apartAt, onceAt, Noted};
@@ -52,7 +52,7 @@ fn slot_apart(seen: &mut [u64; 384], t: &Words, word: u64, i: usize) -> bool
 
 // No two open calls are in conflict, and none holds a connection twice.
 pub fn calls_apart(t: &Words) -> bool
-    ensures { λ r. ⌜ r ≡ (holds shortIdsOnce (tableOf (now (t .entry))) && holds longIdsOnce (tableOf (now (t .entry))) && noTwo sameLsp (below (heldAt (tableOf (now (t .entry)))) (totalOf (tableOf (now (t .entry)))))) ⌝ }
+    ensures { λ r. ⌜ r ≡ (holds shortIdsOnce (tableOf (now (t .entry))) && holds longIdsOnce (tableOf (now (t .entry))) && noTwo sameConnection (below (heldAt (tableOf (now (t .entry)))) (totalOf (tableOf (now (t .entry)))))) ⌝ }
 {
     let word = occupied(t);
     let mut seen: [u64; 384] = [0; 384];

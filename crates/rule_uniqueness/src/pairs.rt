@@ -14,6 +14,7 @@ use table::layout::Words;
 use table::word::is_used;
 use table_words::calls::call_head;
 use table_words::fours::call_four;
+use table_words::ids::same_call;
 use table_words::names::name_byte;
 use table_words::names::name_size;
 
@@ -51,7 +52,7 @@ fn in_conflict(t: &Words, j: usize, i: usize) -> bool
     if c.sender != d.sender {
         return false;
     }
-    (c.id.0 == d.id.0) | same_name(t, j, i) | fours_meet(t, call_four(t, j), call_four(t, i))
+    same_call(c.id, d.id) | same_name(t, j, i) | fours_meet(t, call_four(t, j), call_four(t, i))
 }
 
 // The same, of a slot that may be free: then there is no call to be in conflict with.

@@ -9,7 +9,7 @@ ghost use Rattle.table.specs.Word.{isUsed};
 ghost use Rattle.table.specs.Lists.{callAt, customerAt, placeAt, isTaken};
 ghost use Rattle.table.specs.Rules.{validIds, callFreeClear, callClear, customerFreeClear, customerClear, slotFreeClear, recordFreeClear, holds, namesAndIds, freeHoldsZeros};
 ghost use Rattle.table.specs.Words.{tableOf};
-ghost use Rattle.table_words.specs.Fours.{fourAtWord, Inside};
+ghost use Rattle.table_words.specs.Fours.{fourAtWord, FourInside};
 use fours::four_valid;
 use table::layout::SLOTS;
 use table::layout::Words;
@@ -24,6 +24,7 @@ use table_words::fours::endpoint_at;
 use table_words::fours::place_words;
 use table_words::head::listed;
 use table_words::head::occupied;
+use table_words::ids::is_call_id;
 use table_words::names::past_name_clear;
 
 // A name of 1 to 32 bytes, and a Call ID of sixteen bits that is not 0, or a free slot.
@@ -33,7 +34,7 @@ fn ids_valid(t: &Words, word: u64, i: usize) -> bool
 {
     if is_used(word, i) {
         let c = call_head(t, i);
-        return (c.id.0 != 0) & (c.id.0 < 0x10000) & (c.size != 0) & (c.size <= 32);
+        return is_call_id(c.id) & (c.size != 0) & (c.size <= 32);
     }
     true
 }
@@ -67,7 +68,7 @@ fn call_free_clear(t: &Words, i: usize) -> bool
 
 // An end point stands beside a taken place.
 fn endpoints_clear(t: &Words, f: FourPlace) -> bool
-    requires { ⌜ Inside f ⌝ }
+    requires { ⌜ FourInside f ⌝ }
     ensures { λ r. ⌜ r ≡ everyBelow (λ j. isTaken (placeAt (fourAtWord (now (t .entry)) f) j) || eqb (fourAtWord (now (t .entry)) f .endpoint j) 0) 4 ⌝ }
 {
     let mut clear = true;

@@ -8,11 +8,15 @@ use mathlib.Core.List.{List}
 use mathlib.Core.Bool.{Bool, true, false, cond, not, _&&_, _||_, or-true}
 use lib.Dec.{leb, eqb}
 use borrow.Author.Tests.{eqb-true, eqb-false, eq-eqb, ne-eqb, leb-true, leb-false, le-leb, not-false}
-use Rattle.lists.specs.Count.{count, has}
+use Rattle.lists.specs.Count.{countIf, has}
 use Rattle.lists.proofs.Count.{has-true, has-false}
+use Rattle.objects.specs.declared.fields.CallId.{CallId}
+use Rattle.messages.specs.declared.message.Connection.{Connection}
+use Rattle.messages.specs.declared.message.Message.the-variants.{Drop}
+use Rattle.table.specs.Table.{Table}
 use Rattle.table.specs.Lists.{Terms, Ids, Entry, Lsp, Held}
-use Rattle.table.specs.Share.{listed, guaranteeOf, limitOf, from, callsOf, S}
-use Rattle.table.specs.Rules.{sameShort, sameLong, sameLsp}
+use Rattle.table.specs.Share.{isListed, guaranteeOf, limitOf, from, callsOf, S}
+use Rattle.table.specs.Rules.{sameShort, sameLong, isLsp, sameConnection}
 use Rattle.spec_changes.specs.Calls.{isCall}
 use Rattle.spec_changes.specs.Connections.{sameFour, isCallOf, isUnder, callMissing}
 use Rattle.spec_changes.proofs.Share.{S-same}
@@ -22,6 +26,7 @@ use Rattle.answers.specs.declared.answer.Answer.the-variants.{UnderOtherCall, N
 use Rattle.answers.specs.Answers.{is}
 use Rattle.spec_calls.specs.CallRules.{isOpen, shortInUse, longInUse, shareUsedUp, openAnswer, closeAnswer}
 use Rattle.spec_calls.specs.PathRules.{underOther, addAnswer, dropAnswer}
+use Rattle.spec_calls.specs.Handling.{ruleAnswer}
 
 -- ---- when an answer is given (01, Every answer and Share)
 
@@ -76,34 +81,35 @@ module _ (l : List Entry) (h : List Held) (x : Held) where
   add-elsewhere p = rw p
 
   -- 24: a connection held under the Call ID that the Path names
-  pub add-again : has (underOther x) h ≡ false → has (sameLsp x) h ≡ true → addAnswer l h x ≡ ConnectionAlreadyHeld
+  pub add-again : has (underOther x) h ≡ false → has (sameConnection x) h ≡ true → addAnswer l h x ≡ ConnectionAlreadyHeld
   unfolding addAnswer
   add-again p q = rw (p, q)
 
-  pub add-unknown : has (underOther x) h ≡ false → has (sameLsp x) h ≡ false → callMissing l x ≡ true → addAnswer l h x ≡ PathUnknownCall
+  pub add-unknown : has (underOther x) h ≡ false → has (sameConnection x) h ≡ false → callMissing l x ≡ true → addAnswer l h x ≡ PathUnknownCall
   unfolding addAnswer
   add-unknown p q m = rw (p, q, m)
 
-  pub add-full : has (underOther x) h ≡ false → has (sameLsp x) h ≡ false → callMissing l x ≡ false → leb 4 (count (sameFour x) h) ≡ true → addAnswer l h x ≡ NoPlaceLeft
+  pub add-full : has (underOther x) h ≡ false → has (sameConnection x) h ≡ false → callMissing l x ≡ false → leb 4 (countIf (sameFour x) h) ≡ true → addAnswer l h x ≡ NoPlaceLeft
   unfolding addAnswer
   add-full p q m n = rw (p, q, m, n)
 
-  pub add-new : has (underOther x) h ≡ false → has (sameLsp x) h ≡ false → callMissing l x ≡ false → leb 4 (count (sameFour x) h) ≡ false → addAnswer l h x ≡ ConnectionAdded
+  pub add-new : has (underOther x) h ≡ false → has (sameConnection x) h ≡ false → callMissing l x ≡ false → leb 4 (countIf (sameFour x) h) ≡ false → addAnswer l h x ≡ ConnectionAdded
   unfolding addAnswer
   add-new p q m n = rw (p, q, m, n)
 
-  pub drop-held : has (sameLsp x) h ≡ true → dropAnswer h x ≡ ConnectionRemoved
+module _ (h : List Held) (x : Lsp) where
+  pub drop-held : has (isLsp x) h ≡ true → dropAnswer h x ≡ ConnectionRemoved
   unfolding dropAnswer
   drop-held p = rw p
 
-  pub drop-not-held : has (sameLsp x) h ≡ false → dropAnswer h x ≡ NotHeld
+  pub drop-not-held : has (isLsp x) h ≡ false → dropAnswer h x ≡ NotHeld
   unfolding dropAnswer
   drop-not-held p = rw p
 
 -- 15 and 25: a PathTear's Call ID is not looked at
-pub drop-whatever-call : (h : List Held) (a b : ℕ) (x : Lsp) → dropAnswer h (record { call = a; lsp = x }) ≡ dropAnswer h (record { call = b; lsp = x })
-unfolding dropAnswer sameLsp
-drop-whatever-call h a b x = refl
+pub drop-whatever-call : (t : Table) (s : List ℕ) (c : Connection) (other : CallId)
+    → ruleAnswer t s (Drop c) ≡ ruleAnswer t s (Drop (record { call = other; lsp = c .lsp; session = c .session; template = c .template }))
+drop-whatever-call t s c other = refl
 
 -- ---- open: by its four tests
 
@@ -148,7 +154,7 @@ share-says total r l a b h =
 
 module _ (total : ℕ) (r : List Terms) (l : List Entry) (c : Ids) where
   -- 20 is given only where the call may be opened
-  pub may-open : listed r (c .sender) ≡ true → is 20 (openAnswer total r l c) ≡ true → MayOpen total r l c
+  pub may-open : isListed r (c .sender) ≡ true → is 20 (openAnswer total r l c) ≡ true → MayOpen total r l c
   unfolding openAnswer ShareSays
   may-open known h =
       let k = opens (isOpen l c) (longInUse l c) (shortInUse l c) (shareUsedUp total r l (c .sender)) h in
@@ -162,7 +168,7 @@ module _ (total : ℕ) (r : List Terms) (l : List Entry) (c : Ids) where
   open-never n f1 f2 f3 f4 f5 = never-open n f1 f2 f3 f4 f5 (isOpen l c) (longInUse l c) (shortInUse l c) (shareUsedUp total r l (c .sender))
 
 -- the answer to an open goes by the counts alone
-pub open-same : (total : ℕ) (r : List Terms) (l k : List Entry) (c : Ids) → ((p : Entry → Bool) → count p l ≡ count p k)
+pub open-same : (total : ℕ) (r : List Terms) (l k : List Entry) (c : Ids) → ((p : Entry → Bool) → countIf p l ≡ countIf p k)
     → openAnswer total r l c ≡ openAnswer total r k c
 unfolding openAnswer shareUsedUp
 open-same total r l k c h =
@@ -185,7 +191,7 @@ never-close n f1 f2 f3 false b = f1
 
 module _ (l : List Entry) (h : List Held) (c : Ids) where
   -- 22 is given only for an open call with no connections
-  pub may-close : is 22 (closeAnswer l h c) ≡ true → (0 < count (isCall c) l) × (count (isUnder c) h ≡ 0)
+  pub may-close : is 22 (closeAnswer l h c) ≡ true → (0 < countIf (isCall c) l) × (countIf (isUnder c) h ≡ 0)
   unfolding closeAnswer
   may-close e =
       let k = closes (isOpen l c) (has (isUnder c) h) e in
@@ -219,10 +225,10 @@ never-add n f1 f2 f3 f4 f5 false false false false = f5
 module _ (l : List Entry) (h : List Held) (x : Held) where
   -- 23 is given only where the connection is new, its call is open and one of its four places is free
   pub may-add : is 23 (addAnswer l h x) ≡ true
-      → (count (sameLsp x) h ≡ 0) × ((x .call ≡ 0 → ⊥) → 0 < count (isCallOf x) l) × (count (sameFour x) h < 4)
+      → (countIf (sameConnection x) h ≡ 0) × ((x .call ≡ 0 → ⊥) → 0 < countIf (isCallOf x) l) × (countIf (sameFour x) h < 4)
   unfolding addAnswer
   may-add e =
-      let k = adds (has (underOther x) h) (has (sameLsp x) h) (callMissing l x) (leb 4 (count (sameFour x) h)) e in
+      let k = adds (has (underOther x) h) (has (sameConnection x) h) (callMissing l x) (leb 4 (countIf (sameFour x) h)) e in
       (has-false _ h (k .0), (λ n. has-true _ l (known (ne-eqb _ _ n) (k .1))), leb-false _ _ (k .2))
     where
       known : eqb (x .call) 0 ≡ false → callMissing l x ≡ false → has (isCallOf x) l ≡ true
@@ -232,12 +238,13 @@ module _ (l : List Entry) (h : List Held) (x : Held) where
       → is n ConnectionAdded ≡ false → is n (addAnswer l h x) ≡ false
   unfolding addAnswer
   add-never n f1 f2 f3 f4 f5 =
-      never-add n f1 f2 f3 f4 f5 (has (underOther x) h) (has (sameLsp x) h) (callMissing l x) (leb 4 (count (sameFour x) h))
+      never-add n f1 f2 f3 f4 f5 (has (underOther x) h) (has (sameConnection x) h) (callMissing l x) (leb 4 (countIf (sameFour x) h))
 
+module _ (h : List Held) (x : Lsp) where
   -- 25 is given only for a connection that is held
-  pub may-drop : is 25 (dropAnswer h x) ≡ true → 0 < count (sameLsp x) h
+  pub may-drop : is 25 (dropAnswer h x) ≡ true → 0 < countIf (isLsp x) h
   unfolding dropAnswer
-  may-drop e = has-true _ h (by (has (sameLsp x) h) e)
+  may-drop e = has-true _ h (by (has (isLsp x) h) e)
     where
       by : (b : Bool) → is 25 (cond b ConnectionRemoved NotHeld) ≡ true → b ≡ true
       by true e = refl
@@ -245,7 +252,7 @@ module _ (l : List Entry) (h : List Held) (x : Held) where
 
   pub drop-never : (n : ℕ) → is n ConnectionRemoved ≡ false → is n NotHeld ≡ false → is n (dropAnswer h x) ≡ false
   unfolding dropAnswer
-  drop-never n f1 f2 = by (has (sameLsp x) h)
+  drop-never n f1 f2 = by (has (isLsp x) h)
     where
       by : (b : Bool) → is n (cond b ConnectionRemoved NotHeld) ≡ false
       by true = f1

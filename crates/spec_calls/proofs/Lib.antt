@@ -1,3 +1,4 @@
 pub mod Decided
 pub mod Ruled
 pub mod Names
+pub mod WorkedReplies

@@ -12,7 +12,7 @@ use Rattle.table.specs.Table.{Table}
 use Rattle.table.specs.Total.{totalOf}
 use Rattle.table.specs.Word.{lowestFree}
 use Rattle.table.specs.Lists.{roster, Ids, entries, heldAt, standaloneAt, held}
-use Rattle.table.specs.Share.{listed}
+use Rattle.table.specs.Share.{isListed}
 use Rattle.table.specs.Rules.{rulesHold}
 use Rattle.spec_changes.proofs.Kept.{room-for}
 use Rattle.spec_changes.proofs.Told.{rules-kept}
@@ -24,10 +24,10 @@ use Rattle.spec_calls.specs.CallRules.{openAnswer}
 use Rattle.spec_calls.proofs.Decided.{may-open}
 
 -- 20 leaves a free slot
-pub open-room : (t : Table) (c : Ids) → rulesHold t ≡ true → t .occupied < 2 ^ 64 → listed (roster t) (c .sender) ≡ true
+pub open-room : (t : Table) (c : Ids) → rulesHold t ≡ true → isListed (roster t) (c .sender) ≡ true
     → openAnswer (totalOf t) (roster t) (entries t) c ≡ CallOpened → lowestFree (t .occupied) < totalOf t
-open-room t c h w known e =
-    free-slot t w
+open-room t c h known e =
+    free-slot t
     (room-for (totalOf t) (roster t) (entries t) c (rules-kept t h .calls)
     (may-open (totalOf t) (roster t) (entries t) c known (rw e)))
 

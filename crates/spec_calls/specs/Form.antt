@@ -9,8 +9,9 @@ use Rattle.messages.specs.declared.message.Message.the-variants.{Open, Close, A
 use Rattle.messages.specs.declared.read.Reading.{Reading}
 use Rattle.messages.specs.declared.read.Reading.the-variants.{Refused, Unfit, Read}
 use Rattle.messages.specs.Read.{readOf}
+use Rattle.reply_objects.specs.Buffer.{leastBuffer}
 use Rattle.table.specs.Lists.{Terms}
-use Rattle.table.specs.Share.{listed}
+use Rattle.table.specs.Share.{isListed}
 use Rattle.answers.specs.declared.answer.Answer.{Answer}
 use Rattle.answers.specs.declared.answer.Answer.the-variants.{BufferTooSmall, Malformed, SenderNotListed}
 
@@ -21,22 +22,18 @@ pub data Form : Type 0 where
 abbrev pub senderOf : Message → ℕ
 senderOf (Open q) = q .sender
 senderOf (Close q) = q .sender
-senderOf (Add c) = c .sender
-senderOf (Drop c) = c .sender
+senderOf (Add c) = c .lsp .sender
+senderOf (Drop c) = c .lsp .sender
 
 -- 11 where the sender is not in the roster, else what the reading came to
 unfoldable pub listedOr11 : List Terms → ℕ → Form → Form
-listedOr11 r sender f = cond (listed r sender) f (faulty SenderNotListed)
+listedOr11 r sender f = cond (isListed r sender) f (faulty SenderNotListed)
 
 -- 3 to 10, then 11, then 12 and 13
 abbrev pub readForm : List Terms → Reading → Form
 readForm r (Refused fault offset headers) = faulty (Malformed fault)
 readForm r (Unfit fault sender headers) = listedOr11 r sender (faulty (Malformed fault))
 readForm r (Read message headers) = listedOr11 r (senderOf message) (sound message)
-
--- the smallest reply buffer that a message is taken with (01, answer 2)
-abbrev pub leastBuffer : ℕ
-leastBuffer = 128
 
 -- 2 comes first, also for messages that never get a reply
 unfoldable pub formOf : List Terms → List ℕ → ℕ → Form

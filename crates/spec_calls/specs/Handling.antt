@@ -26,7 +26,7 @@ use Rattle.answers.specs.declared.answer.Answer.the-variants.{TableBroken}
 use Rattle.answers.specs.Answers.{is, errorCode, errorValue, sendsNotify, sendsPathErr}
 use Rattle.spec_calls.specs.Form.{Form, faulty, sound, formOf}
 use Rattle.spec_calls.specs.CallRules.{idsIn, openAnswer, closeAnswer}
-use Rattle.spec_calls.specs.PathRules.{heldBy, addAnswer, dropAnswer}
+use Rattle.spec_calls.specs.PathRules.{lspOf, heldBy, addAnswer, dropAnswer}
 
 -- ---- the answer
 
@@ -35,7 +35,7 @@ abbrev pub ruleAnswer : Table → List ℕ → Message → Answer
 ruleAnswer t s (Open q) = openAnswer (totalOf t) (roster t) (entries t) (idsIn s q)
 ruleAnswer t s (Close q) = closeAnswer (entries t) (held t) (idsIn s q)
 ruleAnswer t s (Add c) = addAnswer (entries t) (held t) (heldBy c)
-ruleAnswer t s (Drop c) = dropAnswer (held t) (heldBy c)
+ruleAnswer t s (Drop c) = dropAnswer (held t) (lspOf (c .lsp))
 
 abbrev pub formAnswer : Table → List ℕ → Form → Answer
 formAnswer t s (faulty a) = a
@@ -56,7 +56,7 @@ abbrev pub changedBy : Table → List ℕ → Message → Answer → Table
 changedBy t s (Open q) a = cond (is 20 a) (opened t (idsIn s q)) t
 changedBy t s (Close q) a = cond (is 22 a) (closed t (idsIn s q)) t
 changedBy t s (Add c) a = cond (is 23 a) (added t (heldBy c)) t
-changedBy t s (Drop c) a = cond (is 25 a) (removed t (heldBy c)) t
+changedBy t s (Drop c) a = cond (is 25 a) (removed t (lspOf (c .lsp))) t
 
 -- the next own identifier moves with every Notify sent
 abbrev pub identified : Answer → Table → Table
@@ -81,7 +81,7 @@ ownId t = record { epoch = t .epoch; identifier = t .next }
 
 abbrev pub notifyFor : ℕ → MessageId → CallRequest → ℕ → Answer → Notify
 notifyFor node own q status a = record {
-  acknowledged = q .id;
+  acknowledged = q .sequence;
   own = own;
   error = errorFor node a;
   session = q .session;

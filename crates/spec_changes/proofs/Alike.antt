@@ -2,14 +2,14 @@
 -- third.
 -- Assumes nothing.
 use Prim.Native.Nat.{ℕ}
-use mathlib.Core.Path.{_≡_, refl}
+use mathlib.Core.Path.{_≡_, refl, ap}
 use mathlib.Core.List.{List, [], _∷_}
 use mathlib.Core.Bool.{true}
 use lib.Dec.{eqb}
 use borrow.Author.Tests.{eqb-true, eq-eqb}
 use Rattle.lists.proofs.Tests.{both}
-use Rattle.table.specs.Lists.{Ids, Held}
-use Rattle.table.specs.Rules.{sameBytes, samePair, sameShort, sameLong, sameLsp}
+use Rattle.table.specs.Lists.{Ids, Lsp, Held}
+use Rattle.table.specs.Rules.{sameBytes, samePair, sameShort, sameLong, sameLsp, sameConnection}
 use Rattle.table.proofs.SameBytes.{same-bytes}
 
 -- ---- to itself
@@ -30,7 +30,7 @@ pub long-self : (c : Ids) → sameLong c c ≡ true
 unfolding sameLong
 long-self c = rw (self (c .endpoint), self (c .sender), bytes-self (c .long))
 
-pub lsp-self : (x : Held) → sameLsp x x ≡ true
+pub lsp-self : (x : Held) → sameConnection x x ≡ true
 unfolding sameLsp
 lsp-self x = rw (self (x .lsp .endpoint), self (x .lsp .sender), self (x .lsp .tunnel), self (x .lsp .extended), self (x .lsp .lspId))
 
@@ -51,17 +51,22 @@ long-alike c d x h =
     let m = both (eqb (c .endpoint) (d .endpoint)) (eqb (c .sender) (d .sender)) (k .0) in
     rw (eqb-true (c .endpoint) (d .endpoint) (m .0), eqb-true (c .sender) (d .sender) (m .1), same-bytes (c .long) (d .long) (k .1))
 
-pub lsp-alike : (x y z : Held) → sameLsp x y ≡ true → sameLsp x z ≡ sameLsp y z
+-- the same in all that a connection is known by is equal
+pub lsp-equal : (x y : Lsp) → sameLsp x y ≡ true → x ≡ y
 unfolding sameLsp
-lsp-alike x y z h =
-    let a = both _ (eqb (x .lsp .lspId) (y .lsp .lspId)) h in
-    let b = both _ (eqb (x .lsp .extended) (y .lsp .extended)) (a .0) in
-    let c = both _ (eqb (x .lsp .tunnel) (y .lsp .tunnel)) (b .0) in
-    let d = both _ (eqb (x .lsp .sender) (y .lsp .sender)) (c .0) in
-    rw (
-      eqb-true (x .lsp .endpoint) (y .lsp .endpoint) (d .0),
-      eqb-true (x .lsp .sender) (y .lsp .sender) (d .1),
-      eqb-true (x .lsp .tunnel) (y .lsp .tunnel) (c .1),
-      eqb-true (x .lsp .extended) (y .lsp .extended) (b .1),
-      eqb-true (x .lsp .lspId) (y .lsp .lspId) (a .1),
-    )
+lsp-equal x y h = fields
+  where
+    each : (x .endpoint ≡ y .endpoint) × (x .sender ≡ y .sender) × (x .tunnel ≡ y .tunnel) × (x .extended ≡ y .extended) × (x .lspId ≡ y .lspId)
+    each =
+        let a = both _ (eqb (x .lspId) (y .lspId)) h in
+        let b = both _ (eqb (x .extended) (y .extended)) (a .0) in
+        let c = both _ (eqb (x .tunnel) (y .tunnel)) (b .0) in
+        let d = both _ (eqb (x .sender) (y .sender)) (c .0) in
+        (eqb-true _ _ (d .0), eqb-true _ _ (d .1), eqb-true _ _ (c .1), eqb-true _ _ (b .1), eqb-true _ _ (a .1))
+
+    fields : _≡_ {A = Lsp} (record { endpoint = x .endpoint; tunnel = x .tunnel; extended = x .extended; sender = x .sender; lspId = x .lspId })
+        (record { endpoint = y .endpoint; tunnel = y .tunnel; extended = y .extended; sender = y .sender; lspId = y .lspId })
+    fields = rw (each .0, each .1, each .2, each .3, each .4)
+
+pub lsp-alike : (x y z : Held) → sameConnection x y ≡ true → sameConnection x z ≡ sameConnection y z
+lsp-alike x y z h = ap (λ a. sameLsp a (z .lsp)) (lsp-equal (x .lsp) (y .lsp) h)

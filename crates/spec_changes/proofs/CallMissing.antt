@@ -6,9 +6,9 @@ use mathlib.Core.Path.{_≡_, refl, _∙_}
 use mathlib.Core.Bool.{Bool, true, false, not, and-false}
 use lib.Dec.{eqb}
 use borrow.Author.Tests.{eq-eqb}
-use Rattle.lists.specs.Count.{count, has}
+use Rattle.lists.specs.Count.{countIf, has}
 use Rattle.lists.proofs.Count.{true-has, false-has}
-use Rattle.lists.proofs.Below.{count-when, count-at}
+use Rattle.lists.proofs.Below.{count-element, count-at}
 use Rattle.table.specs.Table.{Call, Table}
 use Rattle.table.specs.Total.{totalOf}
 use Rattle.table.specs.Word.{isUsed}
@@ -28,8 +28,8 @@ has-call t i l u j = true-has test (entries t) (omega (arith, count-at (openAt t
     test : Entry → Bool
     test = isCallOf (connectionAt (callFour (callAt t i)) j)
 
-    here : count test (openAt t i) ≡ 1
-    here = count-when test (isUsed (t .occupied) i) (record { slot = i; ids = idsOf (callAt t i) }) ∙ rw (u, own-call (callAt t i) j i)
+    here : countIf test (openAt t i) ≡ 1
+    here = count-element test (isUsed (t .occupied) i) (record { slot = i; ids = idsOf (callAt t i) }) ∙ rw (u, own-call (callAt t i) j i)
 
 -- no connection of any table is without its call
 pub no-call-missing : (t : Table) → has (callMissing (entries t)) (held t) ≡ false

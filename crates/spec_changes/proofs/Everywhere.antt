@@ -4,10 +4,10 @@ use Prim.Native.Nat.{ℕ, _<_}
 use mathlib.Core.Path.{_≡_, _∙_}
 use mathlib.Core.Bool.{Bool, true, false}
 use lib.Dec.{ltb}
-use Rattle.lists.specs.Count.{count}
+use Rattle.lists.specs.Count.{countIf}
 use Rattle.lists.specs.Below.{below}
 use Rattle.lists.proofs.Count.{count-append}
-use Rattle.lists.proofs.Below.{count-nowhere, count-not-when, count-not-list-if}
+use Rattle.lists.proofs.Below.{count-nowhere, count-not-element, count-not-list-if}
 use Rattle.table.specs.Table.{Table}
 use Rattle.table.specs.Total.{totalOf}
 use Rattle.table.specs.Word.{isUsed}
@@ -18,20 +18,20 @@ module _ (p : Held → Bool) where
   abbrev pub NoneOf : Four → Type 0
   NoneOf f = (j : ℕ) → j < 4 → isTaken (placeAt f j) ≡ true → p (connectionAt f j) ≡ false
 
-  pub none-in : (f : Four) → NoneOf f → count p (heldIn f) ≡ 0
-  none-in f h = count-nowhere p (heldPlace f) 4 (λ j l. count-not-when p (isTaken (placeAt f j)) (connectionAt f j) (h j l))
+  pub none-in : (f : Four) → NoneOf f → countIf p (heldIn f) ≡ 0
+  none-in f h = count-nowhere p (heldPlace f) 4 (λ j l. count-not-element p (isTaken (placeAt f j)) (connectionAt f j) (h j l))
 
   module _ (t : Table) where
-    pub none-under : ((i : ℕ) → i < totalOf t → isUsed (t .occupied) i ≡ true → NoneOf (callFour (callAt t i))) → count p (below (heldAt t) (totalOf t)) ≡ 0
+    pub none-under : ((i : ℕ) → i < totalOf t → isUsed (t .occupied) i ≡ true → NoneOf (callFour (callAt t i))) → countIf p (below (heldAt t) (totalOf t)) ≡ 0
     none-under h =
         count-nowhere p (heldAt t) (totalOf t)
         (λ i l. count-not-list-if p (isUsed (t .occupied) i) (heldIn (callFour (callAt t i))) (λ u. none-in (callFour (callAt t i)) (h i l u)))
 
-    pub none-standalone : ((k : ℕ) → k < 8 → ltb k (t .listed) ≡ true → NoneOf (customerFour (customerAt t k))) → count p (below (standaloneAt t) 8) ≡ 0
+    pub none-standalone : ((k : ℕ) → k < 8 → ltb k (t .listed) ≡ true → NoneOf (customerFour (customerAt t k))) → countIf p (below (standaloneAt t) 8) ≡ 0
     none-standalone h =
         count-nowhere p (standaloneAt t) 8
         (λ k l. count-not-list-if p (ltb k (t .listed)) (heldIn (customerFour (customerAt t k))) (λ u. none-in (customerFour (customerAt t k)) (h k l u)))
 
     pub none-held : ((i : ℕ) → i < totalOf t → isUsed (t .occupied) i ≡ true → NoneOf (callFour (callAt t i)))
-        → ((k : ℕ) → k < 8 → ltb k (t .listed) ≡ true → NoneOf (customerFour (customerAt t k))) → count p (held t) ≡ 0
+        → ((k : ℕ) → k < 8 → ltb k (t .listed) ≡ true → NoneOf (customerFour (customerAt t k))) → countIf p (held t) ≡ 0
     none-held a b = count-append p (below (heldAt t) (totalOf t)) (below (standaloneAt t) 8) ∙ rw (none-under a, none-standalone b)

@@ -9,42 +9,42 @@ use mathlib.Core.Bool.{Bool, true, false}
 use lib.Dec.{eqb}
 use lib.ListN.{length}
 use borrow.Author.Tests.{eqb-true}
-use Rattle.lists.specs.Count.{bit, count}
+use Rattle.lists.specs.Count.{bit, countIf}
 use Rattle.lists.proofs.Count.{has-true, count-ext}
 use Rattle.table.specs.Table.{Table}
 use Rattle.table.specs.Total.{totalOf}
 use Rattle.table.specs.Word.{isUsed}
 use Rattle.table.specs.Lists.{Terms, roster, Ids, Entry, callAt, entries, Held, held}
-use Rattle.table.specs.Share.{isAt, listed, guaranteeOf, limitOf, from, callsOf, S}
-use Rattle.table.specs.Rules.{badShare, guarantees, rosterHolds, unlisted, sameShort, sameLong, validIds, sameLsp, slotFreeClear, recordFreeClear}
+use Rattle.table.specs.Share.{isAt, isListed, guaranteeOf, limitOf, from, callsOf, S}
+use Rattle.table.specs.Rules.{badShare, guarantees, rosterHolds, unlisted, sameShort, sameLong, validIds, sameConnection, slotFreeClear, recordFreeClear}
 use Rattle.spec_changes.proofs.Alike.{short-alike, long-alike}
 use Rattle.spec_changes.proofs.Share.{S-mono, S-same, S-open, calls-within, calls-below}
 
 -- an acceptable roster
 pub record RosterKept (total : ℕ) (r : List Terms) : Type 0 where
-  pub shares : count (badShare total) r ≡ 0
-  pub apart : (a : ℕ) → count (isAt a) r ≤ 1
+  pub shares : countIf (badShare total) r ≡ 0
+  pub apart : (a : ℕ) → countIf (isAt a) r ≤ 1
   pub sum : guarantees r ≤ total
 
 -- the rules on the open calls
 pub record CallsKept (total : ℕ) (r : List Terms) (l : List Entry) : Type 0 where
-  pub senders : count (unlisted r) l ≡ 0
-  pub limits : (a : ℕ) → listed r a ≡ true → callsOf l a ≤ limitOf r a
+  pub senders : countIf (unlisted r) l ≡ 0
+  pub limits : (a : ℕ) → isListed r a ≡ true → callsOf l a ≤ limitOf r a
   pub room : S r l ≤ total
-  pub shorts : (c : Ids) → count (λ e. sameShort c (e .ids)) l ≤ 1
-  pub longs : (c : Ids) → count (λ e. sameLong c (e .ids)) l ≤ 1
+  pub shorts : (c : Ids) → countIf (λ e. sameShort c (e .ids)) l ≤ 1
+  pub longs : (c : Ids) → countIf (λ e. sameLong c (e .ids)) l ≤ 1
 
 -- all rules on a table
 pub record Kept (t : Table) : Type 0 where
   pub accepted : rosterHolds t ≡ true
   pub calls : CallsKept (totalOf t) (roster t) (entries t)
-  pub once : (x : Held) → count (sameLsp x) (held t) ≤ 1
+  pub once : (x : Held) → countIf (sameConnection x) (held t) ≤ 1
   pub names : (i : ℕ) → i < totalOf t → isUsed (t .occupied) i ≡ true → validIds (callAt t i) ≡ true
   pub slots : (i : ℕ) → i < totalOf t → slotFreeClear t i ≡ true
   pub records : (k : ℕ) → k < 8 → recordFreeClear t k ≡ true
 
 -- fewer calls keep the rules, and so do the same calls in another order
-pub calls-fewer : (total : ℕ) (r : List Terms) (l k : List Entry) → ((p : Entry → Bool) → count p l ≤ count p k) → CallsKept total r k → CallsKept total r l
+pub calls-fewer : (total : ℕ) (r : List Terms) (l k : List Entry) → ((p : Entry → Bool) → countIf p l ≤ countIf p k) → CallsKept total r k → CallsKept total r l
 calls-fewer total r l k f i = record {
   senders = omega (arith, f (unlisted r), i .senders);
   limits = λ a h. omega (arith, f (from a), i .limits a h);
@@ -55,9 +55,9 @@ calls-fewer total r l k f i = record {
 
 -- what an opening needs
 pub record MayOpen (total : ℕ) (r : List Terms) (l : List Entry) (c : Ids) : Type 0 where
-  pub known : listed r (c .sender) ≡ true
-  pub newShort : count (λ e. sameShort c (e .ids)) l ≡ 0
-  pub newLong : count (λ e. sameLong c (e .ids)) l ≡ 0
+  pub known : isListed r (c .sender) ≡ true
+  pub newShort : countIf (λ e. sameShort c (e .ids)) l ≡ 0
+  pub newLong : countIf (λ e. sameLong c (e .ids)) l ≡ 0
   pub under : callsOf l (c .sender) ≢ limitOf r (c .sender)
   pub share : (callsOf l (c .sender) < guaranteeOf r (c .sender)) ⊎ (S r l ≢ total)
 
@@ -72,7 +72,7 @@ module _ (total : ℕ) (r : List Terms) (l : List Entry) (c : Ids) (i : CallsKep
       by (inl h) = omega (arith, calls-below r l (c .sender) (i .senders) h, i .room)
       by (inr h) = omega (arith, calls-within r l (i .senders), i .room)
 
-  open-limits : (a : ℕ) → listed r a ≡ true → bit (eqb (c .sender) a) + callsOf l a ≤ limitOf r a
+  open-limits : (a : ℕ) → isListed r a ≡ true → bit (eqb (c .sender) a) + callsOf l a ≤ limitOf r a
   open-limits a h = by (eqb (c .sender) a) refl
     where
       by : (b : Bool) → eqb (c .sender) a ≡ b → bit b + callsOf l a ≤ limitOf r a
@@ -82,7 +82,7 @@ module _ (total : ℕ) (r : List Terms) (l : List Entry) (c : Ids) (i : CallsKep
           omega (arith, i .limits a h)
       by false q = omega (arith, i .limits a h)
 
-  open-room : (slot : ℕ) → ((a : ℕ) → count (isAt a) r ≤ 1) → S r (record { slot = slot; ids = c } ∷ l) ≤ total
+  open-room : (slot : ℕ) → ((a : ℕ) → countIf (isAt a) r ≤ 1) → S r (record { slot = slot; ids = c } ∷ l) ≤ total
   open-room slot d = by (S-open r l (record { slot = slot; ids = c }) d (has-true _ r (m .known))) (m .share)
     where
       by : (S r (record { slot = slot; ids = c } ∷ l) ≤ suc (S r l))
@@ -92,15 +92,15 @@ module _ (total : ℕ) (r : List Terms) (l : List Entry) (c : Ids) (i : CallsKep
       by u (inr h) = omega (arith, u .0, i .room)
 
   -- a test that is another's where it meets the new call
-  open-once : (p q : Entry → Bool) (e : Entry) → count q l ≡ 0 → count p l ≤ 1 → (p e ≡ true → (x : Entry) → p x ≡ q x) → bit (p e) + count p l ≤ 1
+  open-once : (p q : Entry → Bool) (e : Entry) → countIf q l ≡ 0 → countIf p l ≤ 1 → (p e ≡ true → (x : Entry) → p x ≡ q x) → bit (p e) + countIf p l ≤ 1
   open-once p q e h k f = by (p e) f
     where
-      by : (b : Bool) → (b ≡ true → (x : Entry) → p x ≡ q x) → bit b + count p l ≤ 1
+      by : (b : Bool) → (b ≡ true → (x : Entry) → p x ≡ q x) → bit b + countIf p l ≤ 1
       by true f = omega (arith, count-ext p q l (f refl))
       by false f = omega arith
 
-  pub calls-open : (slot : ℕ) (k : List Entry) → ((a : ℕ) → count (isAt a) r ≤ 1)
-      → ((p : Entry → Bool) → count p k ≡ bit (p (record { slot = slot; ids = c })) + count p l) → CallsKept total r k
+  pub calls-open : (slot : ℕ) (k : List Entry) → ((a : ℕ) → countIf (isAt a) r ≤ 1)
+      → ((p : Entry → Bool) → countIf p k ≡ bit (p (record { slot = slot; ids = c })) + countIf p l) → CallsKept total r k
   calls-open slot k d f = record {
     senders = rw (f (unlisted r), m .known) (omega (arith, i .senders));
     limits = λ a h. rw (f (from a)) (open-limits a h);

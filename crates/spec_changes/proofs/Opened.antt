@@ -1,32 +1,30 @@
 -- The table with a call opened: one entry more, the same connections, and every rule kept. Why there is a free slot for
 -- it.
 -- Assumes nothing.
-use Prim.Native.Nat.{ℕ, zero, suc, _+_, _-_, _^_, _≤_, _<_}
+use Prim.Native.Nat.{ℕ, zero, suc, _+_, _-_, _≤_, _<_}
 use native.Mathlib.Nat.{add-assoc, add-zero}
 use native.Mathlib.Omega.{arith}
 use mathlib.Core.Path.{_≡_, refl, sym, ap, _∙_}
 use mathlib.Core.List.{List, [], _∷_}
 use mathlib.Core.Bool.{Bool, true, false, _&&_, and-true, and-false}
 use lib.Dec.{ltb, eqb}
-use lib.Pow.{pow-lt}
-use lib.Bits.{xor-lt}
 use lib.ListN.{length, getD, replicate, drop}
 use lib.Seq.{getD-append-add, getD-drop}
 use borrow.Author.Tests.{eq-eqb, ne-eqb, ltb-true, ltb-false}
 use Rattle.numbers.specs.Search.{zerosAt}
 use Rattle.numbers.specs.Buffer.{atFront}
 use Rattle.numbers.proofs.Buffer.{front-taken}
-use Rattle.lists.specs.Count.{bit, count}
-use Rattle.lists.specs.Below.{when, below, everyBelow}
-use Rattle.lists.proofs.Below.{count-when, below-ext, below-nothing, below-one, length-each}
+use Rattle.lists.specs.Count.{bit, countIf}
+use Rattle.lists.specs.Below.{elementIf, below, everyBelow}
+use Rattle.lists.proofs.Below.{count-element, below-ext, below-nothing, below-one, length-each}
 use Rattle.table.specs.Table.{Call, Table}
 use Rattle.table.specs.Total.{totalOf}
-use Rattle.table.specs.Word.{isUsed, lowestFree, flipped}
+use Rattle.table.specs.Word.{isUsed, lowestFree, withUsed}
 use Rattle.table.specs.Lists.{roster, Ids, Entry, callAt, idsOf, openAt, entries, Held, callFour, heldIn, held}
 use Rattle.table.specs.Share.{isAt}
-use Rattle.table.specs.Rules.{rosterHolds, validIds, sameLsp, placeClear, placeValid, callFreeClear}
+use Rattle.table.specs.Rules.{rosterHolds, validIds, sameConnection, placeClear, placeValid, callFreeClear}
 use Rattle.table.specs.Stores.{withSlot}
-use Rattle.table.proofs.Slots.{lowest-below, lowest-here, flipped-free, flipped-other}
+use Rattle.table.proofs.Slots.{lowest-below, lowest-here, used-here, used-other, used-fits}
 use Rattle.spec_changes.specs.Shape.{Shape}
 use Rattle.spec_changes.specs.Calls.{stored, opened}
 use Rattle.spec_changes.proofs.Valid.{named-ids}
@@ -42,39 +40,39 @@ abbrev inSlot : ℕ → Entry → Bool
 inSlot j e = eqb j (e .slot)
 
 -- the ledger's slots are the word's
-pub slot-used : (t : Table) (j : ℕ) → j < totalOf t → count (λ e. eqb j (e .slot)) (entries t) ≡ bit (isUsed (t .occupied) j)
+pub slot-used : (t : Table) (j : ℕ) → j < totalOf t → countIf (λ e. eqb j (e .slot)) (entries t) ≡ bit (isUsed (t .occupied) j)
 slot-used t j h =
     omega (
       arith,
       below-one (openAt t) (λ i. []) (inSlot j) j (totalOf t) h elsewhere,
-      ap (count (inSlot j)) (below-nothing (λ i. []) (totalOf t) (λ i l. refl)),
+      ap (countIf (inSlot j)) (below-nothing (λ i. []) (totalOf t) (λ i l. refl)),
       own,
     )
   where
-    at : (i : ℕ) → count (inSlot j) (openAt t i) ≡ bit (isUsed (t .occupied) i && eqb j i)
-    at i = count-when (inSlot j) (isUsed (t .occupied) i) (entryAt t i)
+    at : (i : ℕ) → countIf (inSlot j) (openAt t i) ≡ bit (isUsed (t .occupied) i && eqb j i)
+    at i = count-element (inSlot j) (isUsed (t .occupied) i) (entryAt t i)
 
-    own : count (inSlot j) (openAt t j) ≡ bit (isUsed (t .occupied) j)
+    own : countIf (inSlot j) (openAt t j) ≡ bit (isUsed (t .occupied) j)
     own = rw (at j, eq-eqb j j refl, and-true (isUsed (t .occupied) j))
 
-    elsewhere : (i : ℕ) → (i ≡ j → ⊥) → count (inSlot j) (openAt t i) ≡ 0
+    elsewhere : (i : ℕ) → (i ≡ j → ⊥) → countIf (inSlot j) (openAt t i) ≡ 0
     elsewhere i n = rw (at i, ne-eqb j i (λ e. n (sym e)), and-false (isUsed (t .occupied) i))
 
 -- fewer calls than slots leave a free one
-pub free-slot : (t : Table) → t .occupied < 2 ^ 64 → length (entries t) < totalOf t → lowestFree (t .occupied) < totalOf t
-unfolding when
-free-slot t w h = by (ltb (lowestFree (t .occupied)) (totalOf t)) refl
+pub free-slot : (t : Table) → length (entries t) < totalOf t → lowestFree (t .occupied) < totalOf t
+unfolding elementIf
+free-slot t h = by (ltb (lowestFree (t .occupied)) (totalOf t)) refl
   where
     by : (b : Bool) → ltb (lowestFree (t .occupied)) (totalOf t) ≡ b → lowestFree (t .occupied) < totalOf t
     by true e = ltb-true _ _ e
     by false e =
         let f : totalOf t ≤ lowestFree (t .occupied) = ltb-false _ _ e in
-        let all = below-ext (openAt t) (λ i. entryAt t i ∷ []) (totalOf t) (λ i l. rw (lowest-below (t .occupied) w i (omega arith))) in
+        let all = below-ext (openAt t) (λ i. entryAt t i ∷ []) (totalOf t) (λ i l. rw (lowest-below (t .occupied) i (omega arith))) in
         omega (arith, ap length all ∙ length-each (entryAt t) (totalOf t))
 
--- a slot that changes sides keeps the shape
-pub flipped-shape : (t : Table) (i : ℕ) (c : Call) → Shape t → i < totalOf t → length (c .places) ≡ 4 → Shape (withSlot t (flipped (t .occupied) i) i c)
-flipped-shape t i c s inside p = slot-shape t (flipped (t .occupied) i) i c inside (s .calls) s (xor-lt 64 (t .occupied) (2 ^ i) (s .word) (pow-lt inside)) p
+-- a slot that is taken keeps the shape
+pub used-shape : (t : Table) (i : ℕ) (c : Call) → Shape t → i < totalOf t → length (c .places) ≡ 4 → Shape (withSlot t (withUsed (t .occupied) i) i c)
+used-shape t i c s inside p = slot-shape t (withUsed (t .occupied) i) i c inside (s .calls) s (used-fits (t .occupied) i (s .word) inside) p
 
 -- ---- the call as the slot holds it
 
@@ -102,7 +100,7 @@ unfolding callFreeClear everyBelow placeClear placeValid
 stored-free-clear c = rw (rw add-zero at (zeros-behind (c .long) 0 (32 - length (c .long))))
 
 none-under : (c : Ids) → heldIn (callFour (stored c)) ≡ []
-unfolding below when
+unfolding below elementIf
 none-under c = refl
 
 -- ---- the table
@@ -112,45 +110,45 @@ module _ (t : Table) (c : Ids) (s : Shape t) (free : lowestFree (t .occupied) < 
   slot = lowestFree (t .occupied)
 
   abbrev word : ℕ
-  word = flipped (t .occupied) slot
+  word = withUsed (t .occupied) slot
 
   was : isUsed (t .occupied) slot ≡ false
-  was = lowest-here (t .occupied) (s .word) free
+  was = lowest-here (t .occupied) free
 
   is : isUsed word slot ≡ true
-  is = flipped-free (t .occupied) slot was
+  is = used-here (t .occupied) slot
 
   other : (j : ℕ) → (j ≡ slot → ⊥) → isUsed word j ≡ isUsed (t .occupied) j
-  other = flipped-other (t .occupied) slot
+  other = used-other (t .occupied) slot
 
   -- one entry more
   pub opened-entries : (p : Entry → Bool)
-      → count p (entries (opened t c)) ≡ bit (p (record { slot = lowestFree (t .occupied); ids = c })) + count p (entries t)
+      → countIf p (entries (opened t c)) ≡ bit (p (record { slot = lowestFree (t .occupied); ids = c })) + countIf p (entries t)
   unfolding opened
   opened-entries p = omega (arith, (rw (was, is, stored-ids c) at (slot-entries t word slot (stored c) free (s .calls) other p)))
 
   -- the same connections
-  pub opened-held : (p : Held → Bool) → count p (held (opened t c)) ≡ count p (held t)
+  pub opened-held : (p : Held → Bool) → countIf p (held (opened t c)) ≡ countIf p (held t)
   unfolding opened
   opened-held p = omega (arith, (rw (was, is, none-under c) at (slot-held t word slot (stored c) free (s .calls) other p)))
 
   pub opened-shape : Shape (opened t c)
   unfolding opened
-  opened-shape = flipped-shape t slot (stored c) s free refl
+  opened-shape = used-shape t slot (stored c) s free refl
 
-  keeps : Kept t → MayOpen (totalOf t) (roster t) (entries t) c → ((a : ℕ) → count (isAt a) (roster t) ≤ 1) → validIds (stored c) ≡ true → Kept (opened t c)
+  keeps : Kept t → MayOpen (totalOf t) (roster t) (entries t) c → ((a : ℕ) → countIf (isAt a) (roster t) ≤ 1) → validIds (stored c) ≡ true → Kept (opened t c)
   unfolding opened rosterHolds
   keeps k m d n = record {
     accepted = k .accepted;
     calls = calls-open (totalOf t) (roster t) (entries t) c (k .calls) m slot (entries (opened t c)) d opened-entries;
-    once = λ x. rw (opened-held (sameLsp x)) (k .once x);
+    once = λ x. rw (opened-held (sameConnection x)) (k .once x);
     names = slot-names t word slot (stored c) free (s .calls) other (k .names) (λ u. n);
     slots = slot-free-clear t word slot (stored c) free (s .calls) other (k .slots) (rw is (stored-free-clear c));
     records = k .records;
   }
 
 -- every rule
-pub opened-kept : (t : Table) (c : Ids) → Shape t → Kept t → MayOpen (totalOf t) (roster t) (entries t) c → ((a : ℕ) → count (isAt a) (roster t) ≤ 1)
+pub opened-kept : (t : Table) (c : Ids) → Shape t → Kept t → MayOpen (totalOf t) (roster t) (entries t) c → ((a : ℕ) → countIf (isAt a) (roster t) ≤ 1)
     → 0 < c .short → c .short < 0x10000 → 0 < length (c .long) → length (c .long) ≤ 32 → Kept (opened t c)
 opened-kept t c s k m d short fits some few =
-    keeps t c s (free-slot t (s .word) (room-for (totalOf t) (roster t) (entries t) c (k .calls) m)) k m d (named-ids (stored c) (record { some = short; fits = fits; long = some; most = few }))
+    keeps t c s (free-slot t (room-for (totalOf t) (roster t) (entries t) c (k .calls) m)) k m d (named-ids (stored c) (record { some = short; fits = fits; long = some; most = few }))

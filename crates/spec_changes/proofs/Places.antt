@@ -10,16 +10,16 @@ use lib.Dec.{eqb}
 use lib.ListN.{length, getD, set}
 use lib.Seq.{getD-set-same, getD-set-other}
 use borrow.Author.Tests.{eqb-true, eqb-false}
-use Rattle.lists.specs.Count.{count, has}
+use Rattle.lists.specs.Count.{countIf, has}
 use Rattle.lists.specs.Below.{listIf, below, everyBelow, firstBelow, placeOf}
 use Rattle.lists.proofs.Tests.{both}
 use Rattle.lists.proofs.Count.{has-true}
-use Rattle.lists.proofs.Below.{count-when, has-when, has-list-if, count-at, count-below, every-within, every-at}
+use Rattle.lists.proofs.Below.{count-element, has-element, has-list-if, count-at, count-below, every-within, every-at}
 use Rattle.lists.proofs.Search.{Found, first-found, place-found}
 use Rattle.table.specs.Table.{Place}
 use Rattle.table.specs.Zeros.{noPlace}
-use Rattle.table.specs.Lists.{Held, Four, placeAt, isTaken, connectionAt, heldPlace, heldIn}
-use Rattle.table.specs.Rules.{sameLsp, placeValid}
+use Rattle.table.specs.Lists.{Lsp, Held, Four, placeAt, isTaken, connectionAt, heldPlace, heldIn}
+use Rattle.table.specs.Rules.{isLsp, placeValid}
 use Rattle.spec_changes.specs.Connections.{freePlace, placeWith}
 
 -- what holds of the new element, and of the old one at an index, holds at that index after the change
@@ -41,29 +41,29 @@ module _ (f : Four) where
   abbrev free : ℕ → Bool
   free j = not (isTaken (placeAt f j))
 
-  free-among : (p : Held → Bool) → ((j : ℕ) → p (connectionAt f j) ≡ true) → (n : ℕ) → count p (below (heldPlace f) n) < n → Found free n (firstBelow free n)
+  free-among : (p : Held → Bool) → ((j : ℕ) → p (connectionAt f j) ≡ true) → (n : ℕ) → countIf p (below (heldPlace f) n) < n → Found free n (firstBelow free n)
   free-among p all zero h = let z : ⊥ = omega arith in absurd z
   free-among p all (suc n) h = by (isTaken (placeAt f n)) refl (free-among p all n)
     where
-      by : (b : Bool) → isTaken (placeAt f n) ≡ b → (count p (below (heldPlace f) n) < n → Found free n (firstBelow free n))
+      by : (b : Bool) → isTaken (placeAt f n) ≡ b → (countIf p (below (heldPlace f) n) < n → Found free n (firstBelow free n))
           → Found free (suc n) (firstBelow free (suc n))
       by true e i =
-          let one : count p (heldPlace f n) ≡ 1 = rw (count-when p (isTaken (placeAt f n)) (connectionAt f n), e, all n) in
+          let one : countIf p (heldPlace f n) ≡ 1 = rw (count-element p (isTaken (placeAt f n)) (connectionAt f n), e, all n) in
           let k = i (omega (arith, count-below (heldPlace f) p n)) in
           first-found free (suc n) (firstBelow free n) (omega (arith, k .inside)) (k .passes)
       by false e i = first-found free (suc n) n (omega arith) (rw e)
 
   -- where all that the places hold pass a test and fewer than four pass, the first free place is free
-  pub free-found : (p : Held → Bool) → ((j : ℕ) → p (connectionAt f j) ≡ true) → count p (heldIn f) < 4 → Found (λ j. not (isTaken (placeAt f j))) 4 (freePlace f)
+  pub free-found : (p : Held → Bool) → ((j : ℕ) → p (connectionAt f j) ≡ true) → countIf p (heldIn f) < 4 → Found (λ j. not (isTaken (placeAt f j))) 4 (freePlace f)
   free-found p all h = free-among p all 4 h
 
   -- where a connection is held, the place found is taken, and what it holds is that connection
-  pub found-place : (x : Held) → 0 < count (sameLsp x) (heldIn f)
-      → (placeWith f x < 4) × (isTaken (placeAt f (placeWith f x)) ≡ true) × (sameLsp x (connectionAt f (placeWith f x)) ≡ true)
+  pub found-place : (x : Lsp) → 0 < countIf (isLsp x) (heldIn f)
+      → (placeWith f x < 4) × (isTaken (placeAt f (placeWith f x)) ≡ true) × (isLsp x (connectionAt f (placeWith f x)) ≡ true)
   found-place x h =
       let j = placeWith f x in
-      let g = place-found (heldPlace f) (sameLsp x) 4 h in
-      let k = both (isTaken (placeAt f j)) (sameLsp x (connectionAt f j)) (sym (has-when (sameLsp x) (isTaken (placeAt f j)) (connectionAt f j)) ∙ g .passes) in
+      let g = place-found (heldPlace f) (isLsp x) 4 h in
+      let k = both (isTaken (placeAt f j)) (isLsp x (connectionAt f j)) (sym (has-element (isLsp x) (isTaken (placeAt f j)) (connectionAt f j)) ∙ g .passes) in
       (g .inside, k .0, k .1)
 
 -- rows, of which some are in use
@@ -72,12 +72,12 @@ module _ {A : Type 0} (p : A → Bool) (used : ℕ → Bool) (row : ℕ → List
   rows i = listIf (used i) (row i)
 
   -- what one counts, all count
-  pub row-within : (i : ℕ) → i < n → used i ≡ true → count p (row i) ≤ count p (below rows n)
+  pub row-within : (i : ℕ) → i < n → used i ≡ true → countIf p (row i) ≤ countIf p (below rows n)
   unfolding listIf
   row-within i h u = rw u at (count-at rows p i n h)
 
   -- where something passes, the first row that has something which passes is in use
-  pub found-row : 0 < count p (below rows n) → (placeOf rows p n < n) × (used (placeOf rows p n) ≡ true) × (0 < count p (row (placeOf rows p n)))
+  pub found-row : 0 < countIf p (below rows n) → (placeOf rows p n < n) × (used (placeOf rows p n) ≡ true) × (0 < countIf p (row (placeOf rows p n)))
   found-row h =
       let i = placeOf rows p n in
       let f = place-found rows p n h in

@@ -7,20 +7,20 @@ use mathlib.Core.List.{List, [], _∷_}
 use mathlib.Core.Bool.{Bool, true, false, cond, not}
 use lib.ListN.{length}
 use borrow.Author.Tests.{eqb-true, eq-eqb}
-use Rattle.lists.specs.Count.{bit, count}
+use Rattle.lists.specs.Count.{bit, countIf}
 use Rattle.lists.proofs.Count.{has-true}
 use Rattle.table.specs.Lists.{Terms, Entry}
-use Rattle.table.specs.Share.{isAt, listed, guaranteeOf, from, S}
+use Rattle.table.specs.Share.{isAt, isListed, guaranteeOf, from, S}
 use Rattle.table.specs.Rules.{unlisted}
 
 -- ---- S goes by the counts alone, and rises with them
 
-pub S-mono : (r : List Terms) (l k : List Entry) → ((p : Entry → Bool) → count p l ≤ count p k) → S r l ≤ S r k
+pub S-mono : (r : List Terms) (l k : List Entry) → ((p : Entry → Bool) → countIf p l ≤ countIf p k) → S r l ≤ S r k
 unfolding S
 S-mono [] l k h = omega arith
 S-mono (c ∷ r) l k h = let i = S-mono r l k h in let j = h (from (c .address)) in omega arith
 
-pub S-same : (r : List Terms) (l k : List Entry) → ((p : Entry → Bool) → count p l ≡ count p k) → S r l ≡ S r k
+pub S-same : (r : List Terms) (l k : List Entry) → ((p : Entry → Bool) → countIf p l ≡ countIf p k) → S r l ≡ S r k
 unfolding S
 S-same [] l k h = refl
 S-same (c ∷ r) l k h = let i = S-same r l k h in let j = h (from (c .address)) in omega arith
@@ -28,38 +28,38 @@ S-same (c ∷ r) l k h = let i = S-same r l k h in let j = h (from (c .address))
 -- ---- one call more
 
 -- a customer of another address is not touched
-S-other : (r : List Terms) (l : List Entry) (e : Entry) → count (isAt (e .ids .sender)) r ≡ 0 → S r (e ∷ l) ≡ S r l
+S-other : (r : List Terms) (l : List Entry) (e : Entry) → countIf (isAt (e .ids .sender)) r ≡ 0 → S r (e ∷ l) ≡ S r l
 unfolding S
 S-other [] l e h = refl
 S-other (c ∷ r) l e h = by (isAt (e .ids .sender) c) h (S-other r l e)
   where
-    by : (b : Bool) → bit b + count (isAt (e .ids .sender)) r ≡ 0 → (count (isAt (e .ids .sender)) r ≡ 0 → S r (e ∷ l) ≡ S r l)
-        → max (bit b + count (from (c .address)) l) (c .guarantee) + S r (e ∷ l) ≡ max (count (from (c .address)) l) (c .guarantee) + S r l
+    by : (b : Bool) → bit b + countIf (isAt (e .ids .sender)) r ≡ 0 → (countIf (isAt (e .ids .sender)) r ≡ 0 → S r (e ∷ l) ≡ S r l)
+        → max (bit b + countIf (from (c .address)) l) (c .guarantee) + S r (e ∷ l) ≡ max (countIf (from (c .address)) l) (c .guarantee) + S r l
     by true h i = omega arith
     by false h i = let j = i (omega arith) in omega arith
 
 -- the rest of a roster whose addresses are apart does not have the first one's
-rest-apart : (c : Terms) (r : List Terms) → ((a : ℕ) → count (isAt a) (c ∷ r) ≤ 1) → count (isAt (c .address)) r ≡ 0
+rest-apart : (c : Terms) (r : List Terms) → ((a : ℕ) → countIf (isAt a) (c ∷ r) ≤ 1) → countIf (isAt (c .address)) r ≡ 0
 rest-apart c r d = omega (arith, (rw (eq-eqb (c .address) (c .address) refl) at (d (c .address))))
 
 -- at most one more, and none more below the guarantee
-pub S-open : (r : List Terms) (l : List Entry) (e : Entry) → ((a : ℕ) → count (isAt a) r ≤ 1) → 0 < count (isAt (e .ids .sender)) r
-    → (S r (e ∷ l) ≤ suc (S r l)) × (count (from (e .ids .sender)) l < guaranteeOf r (e .ids .sender) → S r (e ∷ l) ≡ S r l)
+pub S-open : (r : List Terms) (l : List Entry) (e : Entry) → ((a : ℕ) → countIf (isAt a) r ≤ 1) → 0 < countIf (isAt (e .ids .sender)) r
+    → (S r (e ∷ l) ≤ suc (S r l)) × (countIf (from (e .ids .sender)) l < guaranteeOf r (e .ids .sender) → S r (e ∷ l) ≡ S r l)
 unfolding S
 S-open [] l e d h = (omega arith, λ x. refl)
 S-open (c ∷ r) l e d h = by (isAt (e .ids .sender) c) refl h (S-open r l e (λ a. omega (arith, d a)))
   where
-    by : (b : Bool) → isAt (e .ids .sender) c ≡ b → 0 < bit b + count (isAt (e .ids .sender)) r
-        → (0 < count (isAt (e .ids .sender)) r
-        → (S r (e ∷ l) ≤ suc (S r l)) × (count (from (e .ids .sender)) l < guaranteeOf r (e .ids .sender) → S r (e ∷ l) ≡ S r l))
-        → (max (bit b + count (from (c .address)) l) (c .guarantee) + S r (e ∷ l) ≤ suc (max (count (from (c .address)) l) (c .guarantee) + S r l))
-        × (count (from (e .ids .sender)) l < cond b (c .guarantee) (guaranteeOf r (e .ids .sender))
-        → max (bit b + count (from (c .address)) l) (c .guarantee) + S r (e ∷ l) ≡ max (count (from (c .address)) l) (c .guarantee) + S r l)
+    by : (b : Bool) → isAt (e .ids .sender) c ≡ b → 0 < bit b + countIf (isAt (e .ids .sender)) r
+        → (0 < countIf (isAt (e .ids .sender)) r
+        → (S r (e ∷ l) ≤ suc (S r l)) × (countIf (from (e .ids .sender)) l < guaranteeOf r (e .ids .sender) → S r (e ∷ l) ≡ S r l))
+        → (max (bit b + countIf (from (c .address)) l) (c .guarantee) + S r (e ∷ l) ≤ suc (max (countIf (from (c .address)) l) (c .guarantee) + S r l))
+        × (countIf (from (e .ids .sender)) l < cond b (c .guarantee) (guaranteeOf r (e .ids .sender))
+        → max (bit b + countIf (from (c .address)) l) (c .guarantee) + S r (e ∷ l) ≡ max (countIf (from (c .address)) l) (c .guarantee) + S r l)
     by true q h i =
         let same : e .ids .sender ≡ c .address = eqb-true _ _ q in
-        let rest : count (isAt (e .ids .sender)) r ≡ 0 = rw same (rest-apart c r d) in
+        let rest : countIf (isAt (e .ids .sender)) r ≡ 0 = rw same (rest-apart c r d) in
         let o = S-other r l e rest in
-        (omega arith, λ k. let m : count (from (c .address)) l < c .guarantee = rw same at k in omega arith)
+        (omega arith, λ k. let m : countIf (from (c .address)) l < c .guarantee = rw same at k in omega arith)
     by false q h i =
         let j = i (omega arith) in
         (omega (arith, j .0), λ k. let m = j .1 k in omega arith)
@@ -69,19 +69,19 @@ S-open (c ∷ r) l e d h = by (isAt (e .ids .sender) c) refl h (S-open r l e (λ
 -- the calls of all customers
 ofAll : List Terms → List Entry → ℕ
 ofAll [] l = 0
-ofAll (c ∷ r) l = count (from (c .address)) l + ofAll r l
+ofAll (c ∷ r) l = countIf (from (c .address)) l + ofAll r l
 
-one-more : (r : List Terms) (l : List Entry) (e : Entry) → ofAll r (e ∷ l) ≡ count (isAt (e .ids .sender)) r + ofAll r l
+one-more : (r : List Terms) (l : List Entry) (e : Entry) → ofAll r (e ∷ l) ≡ countIf (isAt (e .ids .sender)) r + ofAll r l
 unfolding ofAll
 one-more [] l e = refl
 one-more (c ∷ r) l e = let i = one-more r l e in omega arith
 
-all-listed : (r : List Terms) (l : List Entry) → count (unlisted r) l ≡ 0 → length l ≤ ofAll r l
+all-listed : (r : List Terms) (l : List Entry) → countIf (unlisted r) l ≡ 0 → length l ≤ ofAll r l
 all-listed r [] h = omega arith
-all-listed r (e ∷ l) h = by (listed r (e .ids .sender)) refl h (all-listed r l)
+all-listed r (e ∷ l) h = by (isListed r (e .ids .sender)) refl h (all-listed r l)
   where
-    by : (b : Bool) → listed r (e .ids .sender) ≡ b → bit (not b) + count (unlisted r) l ≡ 0
-        → (count (unlisted r) l ≡ 0 → length l ≤ ofAll r l) → suc (length l) ≤ ofAll r (e ∷ l)
+    by : (b : Bool) → isListed r (e .ids .sender) ≡ b → bit (not b) + countIf (unlisted r) l ≡ 0
+        → (countIf (unlisted r) l ≡ 0 → length l ≤ ofAll r l) → suc (length l) ≤ ofAll r (e ∷ l)
     by true q h i = let j = i (omega arith) in let k = has-true _ r q in let m = one-more r l e in omega arith
     by false q h i = omega arith
 
@@ -91,23 +91,23 @@ all-within [] l = omega arith
 all-within (c ∷ r) l = let i = all-within r l in omega arith
 
 -- a guarantee not used up
-all-below : (r : List Terms) (l : List Entry) (a : ℕ) → count (from a) l < guaranteeOf r a → ofAll r l < S r l
+all-below : (r : List Terms) (l : List Entry) (a : ℕ) → countIf (from a) l < guaranteeOf r a → ofAll r l < S r l
 unfolding S ofAll
 all-below [] l a h = omega arith
 all-below (c ∷ r) l a h = by (isAt a c) refl h (all-below r l a)
   where
-    by : (b : Bool) → isAt a c ≡ b → count (from a) l < cond b (c .guarantee) (guaranteeOf r a)
-        → (count (from a) l < guaranteeOf r a → ofAll r l < S r l)
-        → count (from (c .address)) l + ofAll r l < max (count (from (c .address)) l) (c .guarantee) + S r l
+    by : (b : Bool) → isAt a c ≡ b → countIf (from a) l < cond b (c .guarantee) (guaranteeOf r a)
+        → (countIf (from a) l < guaranteeOf r a → ofAll r l < S r l)
+        → countIf (from (c .address)) l + ofAll r l < max (countIf (from (c .address)) l) (c .guarantee) + S r l
     by true q h i =
         let same : a ≡ c .address = eqb-true _ _ q in
-        let k : count (from (c .address)) l < c .guarantee = rw same at h in
+        let k : countIf (from (c .address)) l < c .guarantee = rw same at h in
         let m = all-within r l in omega arith
     by false q h i = let m = i h in omega arith
 
 -- S counts every call of a listed sender, and one more below a guarantee
-pub calls-within : (r : List Terms) (l : List Entry) → count (unlisted r) l ≡ 0 → length l ≤ S r l
+pub calls-within : (r : List Terms) (l : List Entry) → countIf (unlisted r) l ≡ 0 → length l ≤ S r l
 calls-within r l h = omega (arith, all-listed r l h, all-within r l)
 
-pub calls-below : (r : List Terms) (l : List Entry) (a : ℕ) → count (unlisted r) l ≡ 0 → count (from a) l < guaranteeOf r a → length l < S r l
+pub calls-below : (r : List Terms) (l : List Entry) (a : ℕ) → countIf (unlisted r) l ≡ 0 → countIf (from a) l < guaranteeOf r a → length l < S r l
 calls-below r l a h g = omega (arith, all-listed r l h, all-below r l a g)

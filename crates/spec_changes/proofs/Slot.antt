@@ -9,11 +9,11 @@ use lib.Dec.{eqb}
 use lib.ListN.{length, length-append, length-set}
 use lib.Seq.{getD-set-same, getD-set-other}
 use borrow.Author.Tests.{eqb-true, eqb-false}
-use Rattle.lists.specs.Count.{bit, count}
-use Rattle.lists.specs.Below.{when, below}
+use Rattle.lists.specs.Count.{bit, countIf}
+use Rattle.lists.specs.Below.{elementIf, below}
 use Rattle.lists.proofs.Tests.{both}
 use Rattle.lists.proofs.Count.{count-append}
-use Rattle.lists.proofs.Below.{count-when, count-list-if, has-when, below-one}
+use Rattle.lists.proofs.Below.{count-element, count-list-if, has-element, below-one}
 use Rattle.lists.proofs.Search.{place-found}
 use Rattle.table.specs.Table.{Call, Table}
 use Rattle.table.specs.Total.{totalOf}
@@ -25,10 +25,10 @@ use Rattle.table.specs.Stores.{withSlot}
 use Rattle.spec_changes.specs.Shape.{Shape}
 use Rattle.spec_changes.specs.Calls.{slotOf}
 
-when-most {ℓ} : {A : Type ℓ} (b : Bool) (x : A) → length (when b x) ≤ 1
-unfolding when
-when-most true x = omega arith
-when-most false x = omega arith
+element-most {ℓ} : {A : Type ℓ} (b : Bool) (x : A) → length (elementIf b x) ≤ 1
+unfolding elementIf
+element-most true x = omega arith
+element-most false x = omega arith
 
 -- at most as many calls are open as there are slots
 pub open-most : (t : Table) → length (entries t) ≤ totalOf t
@@ -38,17 +38,17 @@ open-most t = first (totalOf t)
     first : (n : ℕ) → length (below (openAt t) n) ≤ n
     first zero = omega arith
     first (suc n) =
-        omega (arith, length-append (below (openAt t) n) (openAt t n), first n, when-most {A = Entry} (isUsed (t .occupied) n) (record { slot = n; ids = idsOf (callAt t n) }))
+        omega (arith, length-append (below (openAt t) n) (openAt t n), first n, element-most {A = Entry} (isUsed (t .occupied) n) (record { slot = n; ids = idsOf (callAt t n) }))
 
 -- where an open call passes a test, the slot found is used by one that does
-pub found-slot : (t : Table) (p : Entry → Bool) → 0 < count p (entries t)
+pub found-slot : (t : Table) (p : Entry → Bool) → 0 < countIf p (entries t)
     → (slotOf t p < totalOf t) × (isUsed (t .occupied) (slotOf t p) ≡ true)
     × (p (record { slot = slotOf t p; ids = idsOf (callAt t (slotOf t p)) }) ≡ true)
 found-slot t p h =
     let k = slotOf t p in
     let f = place-found (openAt t) p (totalOf t) h in
     let e : Entry = record { slot = k; ids = idsOf (callAt t k) } in
-    let u = both (isUsed (t .occupied) k) (p e) (sym (has-when p (isUsed (t .occupied) k) e) ∙ f .passes) in
+    let u = both (isUsed (t .occupied) k) (p e) (sym (has-element p (isUsed (t .occupied) k) e) ∙ f .passes) in
     (f .inside, u .0, u .1)
 
 module _ (t : Table) (word i : ℕ) (c : Call) (inside : i < totalOf t) (long : totalOf t ≤ length (t .calls)) where
@@ -80,21 +80,21 @@ module _ (t : Table) (word i : ℕ) (c : Call) (inside : i < totalOf t) (long : 
   -- the word beside it says the same of every other slot
   module _ (other : (j : ℕ) → (j ≡ i → ⊥) → isUsed word j ≡ isUsed (t .occupied) j) where
     pub slot-entries : (p : Entry → Bool)
-        → count p (entries (withSlot t word i c)) + bit (isUsed (t .occupied) i && p (record { slot = i; ids = idsOf (callAt t i) }))
-        ≡ count p (entries t) + bit (isUsed word i && p (record { slot = i; ids = idsOf c }))
+        → countIf p (entries (withSlot t word i c)) + bit (isUsed (t .occupied) i && p (record { slot = i; ids = idsOf (callAt t i) }))
+        ≡ countIf p (entries t) + bit (isUsed word i && p (record { slot = i; ids = idsOf c }))
     slot-entries p =
         let x : Entry = record { slot = i; ids = idsOf (callAt t i) } in
         let y : Entry = record { slot = i; ids = idsOf (callAt (withSlot t word i c) i) } in
         omega (
           arith,
           below-one (openAt (withSlot t word i c)) (openAt t) p i (totalOf t) inside (λ j n. rw (other j n, call-other j n)),
-          count-when p (isUsed (t .occupied) i) x,
-          count-when p (isUsed word i) y ∙ ap (λ d. bit (isUsed word i && p (record { slot = i; ids = idsOf d }))) call-here,
+          count-element p (isUsed (t .occupied) i) x,
+          count-element p (isUsed word i) y ∙ ap (λ d. bit (isUsed word i && p (record { slot = i; ids = idsOf d }))) call-here,
         )
 
     pub slot-held : (p : Held → Bool)
-        → count p (held (withSlot t word i c)) + cond (isUsed (t .occupied) i) (count p (heldIn (callFour (callAt t i)))) 0
-        ≡ count p (held t) + cond (isUsed word i) (count p (heldIn (callFour c))) 0
+        → countIf p (held (withSlot t word i c)) + cond (isUsed (t .occupied) i) (countIf p (heldIn (callFour (callAt t i)))) 0
+        ≡ countIf p (held t) + cond (isUsed word i) (countIf p (heldIn (callFour c))) 0
     slot-held p =
         omega (
           arith,
@@ -102,7 +102,7 @@ module _ (t : Table) (word i : ℕ) (c : Call) (inside : i < totalOf t) (long : 
           count-append p (below (heldAt t) (totalOf t)) (below (standaloneAt t) 8),
           below-one (heldAt (withSlot t word i c)) (heldAt t) p i (totalOf t) inside (λ j n. rw (other j n, call-other j n)),
           count-list-if p (isUsed (t .occupied) i) (heldIn (callFour (callAt t i))),
-          count-list-if p (isUsed word i) (heldIn (callFour (callAt (withSlot t word i c) i))) ∙ ap (λ d. cond (isUsed word i) (count p (heldIn (callFour d))) 0) call-here,
+          count-list-if p (isUsed word i) (heldIn (callFour (callAt (withSlot t word i c) i))) ∙ ap (λ d. cond (isUsed word i) (countIf p (heldIn (callFour d))) 0) call-here,
         )
 
     pub slot-names : ((j : ℕ) → j < totalOf t → isUsed (t .occupied) j ≡ true → validIds (callAt t j) ≡ true) → (isUsed word i ≡ true → validIds c ≡ true)

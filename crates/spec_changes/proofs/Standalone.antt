@@ -8,8 +8,8 @@ use lib.Dec.{ltb, eqb}
 use lib.ListN.{length, length-set}
 use lib.Seq.{getD-set-same, getD-set-other}
 use borrow.Author.Tests.{eqb-true, eqb-false}
-use Rattle.lists.specs.Count.{count}
-use Rattle.lists.specs.Below.{when, listIf, below}
+use Rattle.lists.specs.Count.{countIf}
+use Rattle.lists.specs.Below.{elementIf, listIf, below}
 use Rattle.lists.proofs.Tests.{both}
 use Rattle.lists.proofs.Count.{count-append}
 use Rattle.lists.proofs.Below.{below-ext, below-one, every-within, every-at}
@@ -17,7 +17,7 @@ use Rattle.table.specs.Table.{Place, Customer, Table}
 use Rattle.table.specs.Total.{totalOf}
 use Rattle.table.specs.Zeros.{noPlace, pastCustomer}
 use Rattle.table.specs.Lists.{customerAt, termsOf, listedAt, roster, Held, customerFour, placeAt, isTaken, heldIn, heldAt, standaloneAt, held}
-use Rattle.table.specs.Rules.{rosterHolds, sameLsp, placeValid, fourValid, customerFreeClear, customerClear}
+use Rattle.table.specs.Rules.{rosterHolds, sameConnection, placeValid, fourValid, customerFreeClear, customerClear}
 use Rattle.table.specs.Stores.{withCustomer, withStandalonePlace}
 use Rattle.spec_changes.specs.Shape.{Shape}
 use Rattle.spec_changes.proofs.Kept.{Kept}
@@ -43,7 +43,7 @@ module _ (t : Table) (s : Shape t) (k j e : ℕ) (q : Place) (inside : k < 8) (k
   standalone-roster : roster u ≡ roster t
   standalone-roster =
       below-ext (listedAt u) (listedAt t) 8
-      (by-record (λ i x. when (ltb i (t .listed)) (termsOf x) ≡ listedAt t i) refl (λ i h. refl))
+      (by-record (λ i x. elementIf (ltb i (t .listed)) (termsOf x) ≡ listedAt t i) refl (λ i h. refl))
 
   standalone-shape : Shape u
   standalone-shape = record {
@@ -55,11 +55,11 @@ module _ (t : Table) (s : Shape t) (k j e : ℕ) (q : Place) (inside : k < 8) (k
     standalonePlaces = by-record (λ i x. length (x .places) ≡ 4) (length-set (c .places) j q ∙ s .standalonePlaces k inside) (s .standalonePlaces);
   }
 
-  standalone-counts : (p : Held → Bool) → count p (held u) + count p (heldIn (customerFour c)) ≡ count p (held t) + count p (heldIn (customerFour d))
+  standalone-counts : (p : Held → Bool) → countIf p (held u) + countIf p (heldIn (customerFour c)) ≡ countIf p (held t) + countIf p (heldIn (customerFour d))
   unfolding listIf
   standalone-counts p =
-      let old : count p (standaloneAt t k) ≡ count p (heldIn (customerFour c)) = rw known in
-      let new : count p (standaloneAt u k) ≡ count p (heldIn (customerFour d)) = rw (known, getD-set-same (t .customers) k d pastCustomer (omega (arith, s .customers))) in
+      let old : countIf p (standaloneAt t k) ≡ countIf p (heldIn (customerFour c)) = rw known in
+      let new : countIf p (standaloneAt u k) ≡ countIf p (heldIn (customerFour d)) = rw (known, getD-set-same (t .customers) k d pastCustomer (omega (arith, s .customers))) in
       omega (
         arith,
         count-append p (below (heldAt t) (totalOf t)) (below (standaloneAt u) 8),
@@ -84,7 +84,7 @@ module _ (t : Table) (s : Shape t) (k j e : ℕ) (q : Place) (inside : k < 8) (k
       let b = both (fourValid (customerFour c)) _ old in
       rw (places-valid (c .places) j q (s .standalonePlaces k inside) valid (b .0)) (every-within _ 4 (λ i h. beside new i h (every-at _ 4 (b .1) i h)))
 
-  standalone-kept : placeValid q ≡ true → (isTaken q || eqb e 0) ≡ true → Kept t → ((x : Held) → count (sameLsp x) (held u) ≤ 1) → Kept u
+  standalone-kept : placeValid q ≡ true → (isTaken q || eqb e 0) ≡ true → Kept t → ((x : Held) → countIf (sameConnection x) (held u) ≤ 1) → Kept u
   unfolding rosterHolds
   standalone-kept valid new i once = record {
     accepted = rw standalone-roster (i .accepted);

@@ -7,8 +7,8 @@ use mathlib.Core.List.{List, [], _∷_}
 use mathlib.Core.Bool.{Bool, true, false, cond, not, _||_, _&&_}
 use lib.Dec.{ltb, leb, eqb}
 use borrow.Author.Tests.{eqb-true, ltb-false, le-ltb, leb-true, le-leb, not-true}
-use Rattle.lists.specs.Count.{bit, count, has, noTwo}
-use Rattle.lists.specs.Below.{when, everyBelow}
+use Rattle.lists.specs.Count.{bit, countIf, has, noTwo}
+use Rattle.lists.specs.Below.{elementIf, everyBelow}
 use Rattle.lists.proofs.Tests.{both}
 use Rattle.lists.proofs.Count.{has-true, has-false, true-has, false-has}
 use Rattle.lists.proofs.Below.{below-nothing, every-at, every-within}
@@ -17,14 +17,14 @@ use Rattle.table.specs.Table.{Table}
 use Rattle.table.specs.Total.{totalOf}
 use Rattle.table.specs.Word.{isUsed}
 use Rattle.table.specs.Lists.{Terms, listedAt, roster, Entry, callAt, entries, Held, held}
-use Rattle.table.specs.Share.{isAt, listed, guaranteeOf, limitOf, callsOf, S}
-use Rattle.table.specs.Rules.{badShare, sameAddress, guarantees, acceptable, rosterHolds, unlisted, overLimit, sameShort, sameLong, validIds, sameLsp, slotFreeClear, recordFreeClear, rosterAcceptable, sendersListed, withinLimits, shareWithinTotal, shortIdsOnce, longIdsOnce, namesAndIds, connectionsOnce, freeHoldsZeros, holds, rulesHold}
+use Rattle.table.specs.Share.{isAt, isListed, guaranteeOf, limitOf, callsOf, S}
+use Rattle.table.specs.Rules.{badShare, sameAddress, guarantees, acceptable, rosterHolds, unlisted, overLimit, sameShort, sameLong, validIds, sameConnection, slotFreeClear, recordFreeClear, rosterAcceptable, sendersListed, withinLimits, shareWithinTotal, shortIdsOnce, longIdsOnce, namesAndIds, connectionsOnce, freeHoldsZeros, holds, rulesHold}
 use Rattle.spec_changes.proofs.Alike.{self, short-self, long-self, lsp-self, short-alike, long-alike, lsp-alike}
 use Rattle.spec_changes.proofs.Kept.{RosterKept, Kept}
 
 -- ---- tests
 
-none {ℓ} : {A : Type ℓ} (p : A → Bool) (l : List A) → not (has p l) ≡ true → count p l ≡ 0
+none {ℓ} : {A : Type ℓ} (p : A → Bool) (l : List A) → not (has p l) ≡ true → countIf p l ≡ 0
 none p l h = has-false p l (not-true _ h)
 
 failed : (b : Bool) → bit b ≡ 0 → b ≡ false
@@ -53,7 +53,7 @@ empty-kept : (total : ℕ) → RosterKept total []
 empty-kept total = record { shares = refl; apart = λ a. omega arith; sum = omega arith }
 
 no-roster : (t : Table) → t .listed ≡ 0 → roster t ≡ []
-unfolding when
+unfolding elementIf
 no-roster t h = below-nothing (listedAt t) 8 (λ k l. rw (le-ltb k (t .listed) (omega arith)))
 
 -- what an acceptable (or empty) roster has
@@ -68,7 +68,7 @@ roster-kept t h = by (eqb (t .listed) 0) refl h
     by false e h = acceptable-kept (totalOf t) (roster t) (both (leb (t .listed) 8 && ltb (t .epoch) 0x1000000) (acceptable (totalOf t) (roster t)) h .1)
 
 -- a guarantee is within its limit
-pub guarantee-within : (total : ℕ) (r : List Terms) (a : ℕ) → count (badShare total) r ≡ 0 → guaranteeOf r a ≤ limitOf r a
+pub guarantee-within : (total : ℕ) (r : List Terms) (a : ℕ) → countIf (badShare total) r ≡ 0 → guaranteeOf r a ≤ limitOf r a
 unfolding badShare
 guarantee-within total [] a h = omega arith
 guarantee-within total (c ∷ r) a h = by (isAt a c) (guarantee-within total r a (omega arith))
@@ -85,26 +85,26 @@ guarantee-within total (c ∷ r) a h = by (isAt a c) (guarantee-within total r a
 
 -- ---- the limits, as one test of every customer
 
-over-none : (r : List Terms) (l : List Entry) → ((a : ℕ) → count (isAt a) r ≤ 1) → ((a : ℕ) → listed r a ≡ true → callsOf l a ≤ limitOf r a)
-    → count (overLimit l) r ≡ 0
+over-none : (r : List Terms) (l : List Entry) → ((a : ℕ) → countIf (isAt a) r ≤ 1) → ((a : ℕ) → isListed r a ≡ true → callsOf l a ≤ limitOf r a)
+    → countIf (overLimit l) r ≡ 0
 over-none [] l d h = refl
 over-none (c ∷ r) l d h = rw (le-ltb (c .limit) (callsOf l (c .address)) here, over-none r l (λ a. omega (arith, d a)) rest)
   where
     here : callsOf l (c .address) ≤ c .limit
     here = rw (self (c .address)) at (h (c .address) (true-has (isAt (c .address)) (c ∷ r) (omega (arith, ap bit (self (c .address))))))
 
-    rest : (a : ℕ) → listed r a ≡ true → callsOf l a ≤ limitOf r a
+    rest : (a : ℕ) → isListed r a ≡ true → callsOf l a ≤ limitOf r a
     rest a g = by (isAt a c) refl
       where
         by : (b : Bool) → isAt a c ≡ b → callsOf l a ≤ limitOf r a
         by true q = let z : ⊥ = omega (arith, d a, ap bit q, has-true (isAt a) r g) in absurd z
         by false q = rw q at (h a (true-has (isAt a) (c ∷ r) (omega (arith, has-true (isAt a) r g))))
 
-none-over : (r : List Terms) (l : List Entry) → count (overLimit l) r ≡ 0 → (a : ℕ) → listed r a ≡ true → callsOf l a ≤ limitOf r a
+none-over : (r : List Terms) (l : List Entry) → countIf (overLimit l) r ≡ 0 → (a : ℕ) → isListed r a ≡ true → callsOf l a ≤ limitOf r a
 none-over [] l h a g = let z : ⊥ = omega (arith, has-true (isAt a) [] g) in absurd z
 none-over (c ∷ r) l h a g = by (isAt a c) refl (has-true (isAt a) (c ∷ r) g) (none-over r l (omega arith) a)
   where
-    by : (b : Bool) → isAt a c ≡ b → 0 < bit b + count (isAt a) r → (listed r a ≡ true → callsOf l a ≤ limitOf r a)
+    by : (b : Bool) → isAt a c ≡ b → 0 < bit b + countIf (isAt a) r → (isListed r a ≡ true → callsOf l a ≤ limitOf r a)
         → callsOf l a ≤ cond b (c .limit) (limitOf r a)
     by true q g i =
         let e : a ≡ c .address = eqb-true _ _ q in
@@ -139,7 +139,7 @@ rules-kept t h =
         shorts = no-two-once sameShort (λ (e : Entry). e .ids) short-alike (entries t) (shorts .1);
         longs = no-two-once sameLong (λ (e : Entry). e .ids) long-alike (entries t) (longs .1);
       };
-      once = no-two-once sameLsp (λ (x : Held). x) lsp-alike (held t) (once .1);
+      once = no-two-once sameConnection (λ (x : Held). x) lsp-alike (held t) (once .1);
       names = λ i l. named (isUsed (t .occupied) i) (validIds (callAt t i)) (every-at _ (totalOf t) (names .1) i l);
       slots = every-at (slotFreeClear t) (totalOf t) (clear .0);
       records = every-at (recordFreeClear t) 8 (clear .1);
@@ -157,7 +157,7 @@ kept-rules t k =
       once-no-two sameShort (λ (e : Entry). e .ids) short-alike short-self (entries t) (k .calls .shorts),
       once-no-two sameLong (λ (e : Entry). e .ids) long-alike long-self (entries t) (k .calls .longs),
       every-within (λ i. not (isUsed (t .occupied) i) || validIds (callAt t i)) (totalOf t) (λ i l. name-valid i l (isUsed (t .occupied) i) refl),
-      once-no-two sameLsp (λ (x : Held). x) lsp-alike lsp-self (held t) (k .once),
+      once-no-two sameConnection (λ (x : Held). x) lsp-alike lsp-self (held t) (k .once),
       every-within (slotFreeClear t) (totalOf t) (k .slots),
       every-within (recordFreeClear t) 8 (k .records),
     )
@@ -165,3 +165,14 @@ kept-rules t k =
     name-valid : (i : ℕ) → i < totalOf t → (u : Bool) → isUsed (t .occupied) i ≡ u → (not u || validIds (callAt t i)) ≡ true
     name-valid i l true e = k .names i l e
     name-valid i l false e = refl
+
+-- at most eight customers are listed
+pub listed-most : (t : Table) → rosterHolds t ≡ true → t .listed ≤ 8
+unfolding rosterHolds
+listed-most t h = by (eqb (t .listed) 0) refl h
+  where
+    by : (b : Bool) → eqb (t .listed) 0 ≡ b
+        → cond b (eqb (t .address) 0 && eqb (t .epoch) 0) (leb (t .listed) 8 && ltb (t .epoch) 0x1000000 && acceptable (totalOf t) (roster t)) ≡ true → t .listed ≤ 8
+    by true e h = omega (arith, eqb-true (t .listed) 0 e)
+    by false e h =
+        leb-true (t .listed) 8 (both _ _ (both (leb (t .listed) 8 && ltb (t .epoch) 0x1000000) (acceptable (totalOf t) (roster t)) h .0) .0)

@@ -7,7 +7,7 @@ use mathlib.Core.Bool.{Bool, true, _&&_}
 use lib.ListN.{length-set}
 use lib.Seq.{getD-set-other}
 use Rattle.numbers.specs.Search.{zerosAt}
-use Rattle.lists.specs.Count.{count}
+use Rattle.lists.specs.Count.{countIf}
 use Rattle.lists.specs.Below.{below}
 use Rattle.lists.proofs.Tests.{both}
 use Rattle.lists.proofs.Count.{count-append}
@@ -35,7 +35,7 @@ module _ (t : Table) (s : Shape t) (i j : ℕ) (q : Place) (inside : i < totalOf
   abbrev u : Table
   u = withSlot t (t .occupied) i d
 
-  under-entries : (p : Entry → Bool) → count p (entries u) ≡ count p (entries t)
+  under-entries : (p : Entry → Bool) → countIf p (entries u) ≡ countIf p (entries t)
   under-entries p = omega (arith, slot-entries t (t .occupied) i d inside (s .calls) (λ m n. refl) p)
 
   under-free-clear : placeValid q ≡ true → callFreeClear c ≡ true → callFreeClear d ≡ true

@@ -7,7 +7,7 @@ use Rattle.lists.specs.Below.{placeOf}
 use Rattle.table.specs.Table.{Call, Table}
 use Rattle.table.specs.Total.{totalOf}
 use Rattle.table.specs.Identifier.{identifierAfter}
-use Rattle.table.specs.Word.{lowestFree, flipped}
+use Rattle.table.specs.Word.{lowestFree, withUsed, withFree}
 use Rattle.table.specs.Zeros.{noPlace, noCall}
 use Rattle.table.specs.Lists.{Ids, Entry, openAt}
 use Rattle.table.specs.Rules.{sameShort, sameLong}
@@ -28,20 +28,21 @@ stored c = record {
   places = replicate 4 noPlace;
 }
 
--- 01, Share: a new call takes the lowest free slot
+-- 01, Share: a new call takes the lowest free slot. There is one wherever the answer is 20 (`open-room`).
 unfoldable pub opened : Table → Ids → Table
-opened t c = withSlot t (flipped (t .occupied) (lowestFree (t .occupied))) (lowestFree (t .occupied)) (stored c)
+opened t c = withSlot t (withUsed (t .occupied) (lowestFree (t .occupied))) (lowestFree (t .occupied)) (stored c)
 
 -- an entry is the call that has all four
 abbrev pub isCall : Ids → Entry → Bool
 isCall c e = sameShort c (e .ids) && sameLong c (e .ids)
 
+-- the slot of the first call that passes a test, 0 where none does
 abbrev pub slotOf : Table → (Entry → Bool) → ℕ
 slotOf t p = placeOf (openAt t) p (totalOf t)
 
--- the call's slot is free again, and what is free holds zeros
+-- the call's slot is free again, and what is free holds zeros. A call is closed only where it is open (33).
 unfoldable pub closed : Table → Ids → Table
-closed t c = withSlot t (flipped (t .occupied) (slotOf t (isCall c))) (slotOf t (isCall c)) noCall
+closed t c = withSlot t (withFree (t .occupied) (slotOf t (isCall c))) (slotOf t (isCall c)) noCall
 
 -- 01, Reply bytes: own identifiers rise by one a Notify sent
 abbrev pub identifierTaken : Table → Table

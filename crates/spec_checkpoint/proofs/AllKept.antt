@@ -10,28 +10,31 @@ use mathlib.Core.List.{List, [], _∷_}
 use mathlib.Core.Bool.{Bool, true, false, not, _&&_, and-false}
 use lib.Dec.{ltb, eqb}
 use borrow.Author.Tests.{eq-eqb, eqb-true, eqb-false, ltb-true, ltb-false, le-ltb, lt-ltb}
-use Rattle.lists.specs.Count.{bit, count}
-use Rattle.lists.specs.Below.{when, below}
+use Rattle.lists.specs.Count.{bit, countIf}
+use Rattle.lists.specs.Below.{below}
 use Rattle.lists.proofs.Below.{count-below, count-at, every-within}
 use Rattle.lists.proofs.Count.{one-bit}
 use Rattle.table.specs.Table.{Table}
 use Rattle.table.specs.Total.{totalOf}
-use Rattle.table.specs.Word.{isUsed}
-use Rattle.table.specs.Lists.{roster, idsOf, Entry, entries, Held, callFour, heldIn, held}
+use Rattle.table.specs.Word.{isUsed, withUsed}
+use Rattle.table.specs.Lists.{roster, idsOf, callAt, Entry, entries, Held, held}
 use Rattle.table.specs.Rules.{validIds, sameLong, callFreeClear}
+use Rattle.table.proofs.Slots.{used-other}
 use Rattle.spec_changes.specs.Shape.{Shape}
 use Rattle.spec_changes.proofs.Alike.{long-self}
 use Rattle.spec_changes.proofs.Kept.{CallsKept, Kept, calls-fewer}
-use Rattle.spec_changes.proofs.Opened.{slot-used, flipped-shape}
+use Rattle.spec_changes.proofs.Slot.{call-here, call-other}
+use Rattle.spec_changes.proofs.Opened.{slot-used, used-shape}
 use Rattle.spec_changes.proofs.Told.{kept-rules}
 use Rattle.spec_checkpoint.specs.Layout.{Slotted, callsIn, callRecord}
-use Rattle.spec_checkpoint.specs.Salvage.{placed, soundAlone, namedBy, goesBefore, keptByLongId, callFits, withCalls}
-use Rattle.spec_checkpoint.proofs.Part.{entryOf, placed-entries, placed-held, placed-kept}
+use Rattle.spec_checkpoint.specs.Places.{withoutPlaces}
+use Rattle.spec_checkpoint.specs.Salvage.{placed, soundAlone, namedBy, goesBefore, sameCall, keptByLongId, callFits, withCalls}
+use Rattle.spec_checkpoint.proofs.Part.{entryOf, record-bare, placed-entries, placed-held, placed-kept}
 
 -- ---- elements that stand one in each place
 
 module _ {ℓ} {A : Type ℓ} (f : ℕ → List A) (p : A → Bool) where
-  pub count-prefix : (i n : ℕ) → i ≤ n → count p (below f i) ≤ count p (below f n)
+  pub count-prefix : (i n : ℕ) → i ≤ n → countIf p (below f i) ≤ countIf p (below f n)
   count-prefix i zero h = let e : i ≡ 0 = omega arith in rw e (omega arith)
   count-prefix i (suc n) h =
       ⊎-elim
@@ -40,13 +43,22 @@ module _ {ℓ} {A : Type ℓ} (f : ℕ → List A) (p : A → Bool) where
       (eq-or-lt-of-le h)
 
   -- two places that pass count as two
-  pub count-two : (i j n : ℕ) → i < j → j < n → count p (f i) + count p (f j) ≤ count p (below f n)
+  pub count-two : (i j n : ℕ) → i < j → j < n → countIf p (f i) + countIf p (f j) ≤ countIf p (below f n)
   count-two i j zero a b = absurd (not-suc-le-zero b)
   count-two i j (suc n) a b =
       ⊎-elim
       (λ (q : j ≡ n). rw q (omega (arith, count-at f p i n (omega arith), count-below f p n)))
       (λ (q : j < n). omega (arith, count-two i j n a q, count-below f p n))
       (eq-or-lt-of-le (le-of-suc-le-suc b))
+
+  -- where one at most passes, two places that pass are one
+  pub one-place : (i j n : ℕ) → i < n → j < n → 0 < countIf p (f i) → 0 < countIf p (f j) → countIf p (below f n) ≤ 1 → i ≡ j
+  one-place i j n h l a b most = by (ltb i j) refl (ltb j i) refl
+    where
+      by : (c : Bool) → ltb i j ≡ c → (d : Bool) → ltb j i ≡ d → i ≡ j
+      by true q d r = let z : ⊥ = omega (arith, count-two i j n (ltb-true i j q) l) in absurd z
+      by false q true r = let z : ⊥ = omega (arith, count-two j i n (ltb-true j i r) h) in absurd z
+      by false q false r = omega (arith, ltb-false i j q, ltb-false j i r)
 
 -- ---- the records
 
@@ -55,37 +67,35 @@ pub record Copied (t : Table) (s : List ℕ) : Type 0 where
   pub slots : (i : ℕ) → i < callsIn s → callRecord s i .slot < totalOf t
   pub names : (i : ℕ) → i < callsIn s → validIds (callRecord s i .call) ≡ true
   pub clear : (i : ℕ) → i < callsIn s → callFreeClear (callRecord s i .call) ≡ true
-  pub all : (p : Entry → Bool) → count p (below (λ i. entryOf (callRecord s i) ∷ []) (callsIn s)) ≡ count p (entries t)
+  pub call : (i : ℕ) → i < callsIn s → callRecord s i .call ≡ withoutPlaces (callAt t (callRecord s i .slot))
+  pub all : (p : Entry → Bool) → countIf p (below (λ i. entryOf (callRecord s i) ∷ []) (callsIn s)) ≡ countIf p (entries t)
 
 -- the table from the first n of them
-pub record Filled (fresh : Table) (s : List ℕ) (n : ℕ) : Type 0 where
+pub record Filled (t fresh : Table) (s : List ℕ) (n : ℕ) : Type 0 where
   pub shape : Shape (withCalls fresh s n)
   pub kept : Kept (withCalls fresh s n)
   pub same : roster (withCalls fresh s n) ≡ roster fresh
-  pub calls : (p : Entry → Bool) → count p (entries (withCalls fresh s n)) ≡ count p (below (λ i. entryOf (callRecord s i) ∷ []) n)
-  pub connections : (p : Held → Bool) → count p (held (withCalls fresh s n)) ≡ count p (held fresh)
+  pub calls : (p : Entry → Bool) → countIf p (entries (withCalls fresh s n)) ≡ countIf p (below (λ i. entryOf (callRecord s i) ∷ []) n)
+  pub fields : (j : ℕ) → j < totalOf t → isUsed (withCalls fresh s n .occupied) j ≡ true → callAt (withCalls fresh s n) j ≡ withoutPlaces (callAt t j)
+  pub connections : (p : Held → Bool) → countIf p (held (withCalls fresh s n)) ≡ countIf p (held fresh)
 
 module _ (t fresh : Table) (s : List ℕ) (k : Kept t) (c : Copied t s)
-    (shape : Shape fresh) (kept : Kept fresh) (same : roster fresh ≡ roster t) (idle : (p : Entry → Bool) → count p (entries fresh) ≡ 0) where
+    (shape : Shape fresh) (kept : Kept fresh) (same : roster fresh ≡ roster t) (idle : (p : Entry → Bool) → countIf p (entries fresh) ≡ 0) where
   abbrev f : ℕ → List Entry
   f i = entryOf (callRecord s i) ∷ []
 
-  none : (i : ℕ) → heldIn (callFour (callRecord s i .call)) ≡ []
-  unfolding below when
-  none i = refl
-
   -- fewer calls than the other table's keep the rules
-  part : (l : List Entry) → ((p : Entry → Bool) → count p l ≤ count p (entries t)) → CallsKept (totalOf fresh) (roster fresh) l
+  part : (l : List Entry) → ((p : Entry → Bool) → countIf p l ≤ countIf p (entries t)) → CallsKept (totalOf fresh) (roster fresh) l
   part l h = rw same (calls-fewer (totalOf t) (roster t) l (entries t) h (k .calls))
 
-  one : (i : ℕ) → i < callsIn s → (p : Entry → Bool) → bit (p (entryOf (callRecord s i))) ≤ count p (entries t)
+  one : (i : ℕ) → i < callsIn s → (p : Entry → Bool) → bit (p (entryOf (callRecord s i))) ≤ countIf p (entries t)
   one i h p = omega (arith, count-at f p i (callsIn s) h, c .all p)
 
-  more : (i : ℕ) → i < callsIn s → (p : Entry → Bool) → bit (p (entryOf (callRecord s i))) + count p (below f i) ≤ count p (entries t)
+  more : (i : ℕ) → i < callsIn s → (p : Entry → Bool) → bit (p (entryOf (callRecord s i))) + countIf p (below f i) ≤ countIf p (entries t)
   more i h p = omega (arith, count-below f p i, count-prefix f p (suc i) (callsIn s) h, c .all p)
 
   -- a slot that no entry has is free
-  free : (u : Table) (j : ℕ) → j < totalOf u → count (λ e. eqb j (e .slot)) (entries u) ≡ 0 → isUsed (u .occupied) j ≡ false
+  free : (u : Table) (j : ℕ) → j < totalOf u → countIf (λ e. eqb j (e .slot)) (entries u) ≡ 0 → isUsed (u .occupied) j ≡ false
   free u j h e = by (isUsed (u .occupied) j) (sym (slot-used u j h) ∙ e)
     where
       by : (b : Bool) → bit b ≡ 0 → b ≡ false
@@ -99,34 +109,30 @@ module _ (t fresh : Table) (s : List ℕ) (k : Kept t) (c : Copied t s)
       let was = free fresh (r .slot) (c .slots i h) (idle _) in
       rw (
         lt-ltb _ _ (c .slots i h),
-        kept-rules (placed fresh r) (placed-kept fresh r shape (c .slots i h) was (none i) kept
-            (part (entries (placed fresh r)) (λ p. omega (arith, placed-entries fresh r shape (c .slots i h) was (none i) p, idle p, one i h p)))
+        kept-rules (placed fresh r) (placed-kept fresh r shape (c .slots i h) was (record-bare s i) kept
+            (part (entries (placed fresh r)) (λ p. omega (arith, placed-entries fresh r shape (c .slots i h) was (record-bare s i) p, idle p, one i h p)))
             (c .names i h) (c .clear i h)),
       )
 
   -- two records have two long IDs
-  apart : (i j : ℕ) → i < callsIn s → j < callsIn s → (j ≡ i → ⊥) → sameLong (idsOf (callRecord s j .call)) (idsOf (callRecord s i .call)) ≡ false
-  apart i j h l n = by (sameLong (idsOf (callRecord s j .call)) (idsOf (callRecord s i .call))) refl
+  apart : (i j : ℕ) → i < callsIn s → j < callsIn s → (j ≡ i → ⊥) → sameCall s j i ≡ false
+  apart i j h l n = by (sameCall s j i) refl
     where
       p : Entry → Bool
       p e = sameLong (idsOf (callRecord s j .call)) (e .ids)
 
-      hit : (m : ℕ) → sameLong (idsOf (callRecord s j .call)) (idsOf (callRecord s m .call)) ≡ true → count p (f m) ≡ 1
+      hit : (m : ℕ) → sameLong (idsOf (callRecord s j .call)) (idsOf (callRecord s m .call)) ≡ true → countIf p (f m) ≡ 1
       hit m e = rw e
 
-      most : count p (below f (callsIn s)) ≤ 1
+      most : countIf p (below f (callsIn s)) ≤ 1
       most = omega (arith, c .all p, k .calls .longs (idsOf (callRecord s j .call)))
 
-      here : count p (f j) ≡ 1
+      here : countIf p (f j) ≡ 1
       here = hit j (long-self (idsOf (callRecord s j .call)))
 
-      not-both : count p (f i) ≡ 1 → (b : Bool) → ltb i j ≡ b → ⊥
-      not-both there true q = omega (arith, here, most, count-two f p i j (callsIn s) (ltb-true i j q) l)
-      not-both there false q = omega (arith, here, most, count-two f p j i (callsIn s) (omega (arith, ltb-false i j q)) h)
-
-      by : (b : Bool) → sameLong (idsOf (callRecord s j .call)) (idsOf (callRecord s i .call)) ≡ b → b ≡ false
+      by : (b : Bool) → sameCall s j i ≡ b → b ≡ false
       by false e = refl
-      by true e = absurd (not-both (hit i e) (ltb i j) refl)
+      by true e = absurd (n (one-place f p j i (callsIn s) l h (omega (arith, here)) (omega (arith, hit i e)) most))
 
   -- no record goes before itself
   not-itself : (i : ℕ) → goesBefore s i i ≡ false
@@ -137,12 +143,12 @@ module _ (t fresh : Table) (s : List ℕ) (k : Kept t) (c : Copied t s)
   picked i h = rw (alone i h) (every-within _ (callsIn s) (λ j l. by j l (eqb j i) refl))
     where
       by : (j : ℕ) → j < callsIn s → (b : Bool) → eqb j i ≡ b
-          → not (soundAlone fresh (callRecord s j) && sameLong (idsOf (callRecord s j .call)) (idsOf (callRecord s i .call)) && goesBefore s j i) ≡ true
+          → not (soundAlone fresh (callRecord s j) && sameCall s j i && goesBefore s j i) ≡ true
       by j l true e = rw (eqb-true j i e, not-itself i, and-false _)
       by j l false e = rw (apart i j h l (eqb-false j i e), and-false _)
 
   -- the next one fits beside the first n
-  module _ (i : ℕ) (h : i < callsIn s) (b : Filled fresh s i) where
+  module _ (i : ℕ) (h : i < callsIn s) (b : Filled t fresh s i) where
     abbrev u : Table
     u = withCalls fresh s i
 
@@ -156,26 +162,40 @@ module _ (t fresh : Table) (s : List ℕ) (k : Kept t) (c : Copied t s)
         free u (r .slot) (c .slots i h) (omega (arith, b .calls p, own, more i h p, slot-used t (r .slot) (c .slots i h), one-bit (isUsed (t .occupied) (r .slot))))
 
     next : Kept (placed u r)
-    next = placed-kept u r (b .shape) (c .slots i h) was (none i) (b .kept)
-        (rw (b .same) (part (entries (placed u r)) (λ p. omega (arith, placed-entries u r (b .shape) (c .slots i h) was (none i) p, b .calls p, more i h p))))
+    next = placed-kept u r (b .shape) (c .slots i h) was (record-bare s i) (b .kept)
+        (rw (b .same) (part (entries (placed u r)) (λ p. omega (arith, placed-entries u r (b .shape) (c .slots i h) was (record-bare s i) p, b .calls p, more i h p))))
         (c .names i h) (c .clear i h)
 
     goes-on : withCalls fresh s (suc i) ≡ placed u r
     unfolding withCalls callFits
     goes-on = rw (picked i h, was, kept-rules (placed u r) next)
 
-    step : Filled fresh s (suc i)
+    next-fields : (j : ℕ) → j < totalOf t → isUsed (placed u r .occupied) j ≡ true → callAt (placed u r) j ≡ withoutPlaces (callAt t j)
+    next-fields j l q = by (eqb j (r .slot)) refl
+      where
+        by : (a : Bool) → eqb j (r .slot) ≡ a → callAt (placed u r) j ≡ withoutPlaces (callAt t j)
+        by true e = rw (eqb-true j (r .slot) e) (call-here u (withUsed (u .occupied) (r .slot)) (r .slot) (r .call) (c .slots i h) (b .shape .calls) ∙ c .call i h)
+        by false e =
+            let n = eqb-false j (r .slot) e in
+            call-other u (withUsed (u .occupied) (r .slot)) (r .slot) (r .call) (c .slots i h) (b .shape .calls) j n
+            ∙ b .fields j l (sym (used-other (u .occupied) (r .slot) j n) ∙ q)
+
+    step : Filled t fresh s (suc i)
     unfolding below
     step = record {
-      shape = rw goes-on (flipped-shape u (r .slot) (r .call) (b .shape) (c .slots i h) refl);
+      shape = rw goes-on (used-shape u (r .slot) (r .call) (b .shape) (c .slots i h) refl);
       kept = rw goes-on next;
       same = rw goes-on (b .same);
-      calls = λ p. rw goes-on (omega (arith, placed-entries u r (b .shape) (c .slots i h) was (none i) p, b .calls p, count-below f p i));
-      connections = λ p. rw goes-on (placed-held u r (b .shape) (c .slots i h) was (none i) p ∙ b .connections p);
+      calls = λ p. rw goes-on (omega (arith, placed-entries u r (b .shape) (c .slots i h) was (record-bare s i) p, b .calls p, count-below f p i));
+      fields = rw goes-on next-fields;
+      connections = λ p. rw goes-on (placed-held u r (b .shape) (c .slots i h) was (record-bare s i) p ∙ b .connections p);
     }
 
+  unused : (j : ℕ) → j < totalOf t → isUsed (fresh .occupied) j ≡ true → callAt fresh j ≡ withoutPlaces (callAt t j)
+  unused j l u = let n : false ≡ true = sym (free fresh j l (idle _)) ∙ u in let z : _≡_ {A = ℕ} 0 1 = cc in let e : ⊥ = omega arith in absurd e
+
   -- all of the first n are kept
-  pub filled : (n : ℕ) → n ≤ callsIn s → Filled fresh s n
+  pub filled : (n : ℕ) → n ≤ callsIn s → Filled t fresh s n
   unfolding withCalls below
-  filled zero h = record { shape = shape; kept = kept; same = refl; calls = λ p. idle p; connections = λ p. refl }
+  filled zero h = record { shape = shape; kept = kept; same = refl; calls = λ p. idle p; fields = unused; connections = λ p. refl }
   filled (suc i) h = step i h (filled i (omega arith))

@@ -15,7 +15,7 @@ use Rattle.lists.proofs.Below.{getD-each}
 use Rattle.lists.proofs.Search.{place-found, first-least}
 use Rattle.table.specs.Table.{Place, Call, Customer, Table}
 use Rattle.table.specs.Total.{total, totalOf}
-use Rattle.table.specs.Word.{flipped}
+use Rattle.table.specs.Word.{withUsed}
 use Rattle.table.specs.Zeros.{noPlace, noCall, noCustomer, pastCall, pastCustomer}
 use Rattle.table.specs.Lists.{customerAt, listedAt, roster, callAt, Held, callFour, customerFour, isTaken}
 use Rattle.table.specs.Share.{isAt}
@@ -98,7 +98,7 @@ not-taken e = let z : _≡_ {A = ℕ} 0 1 = cc in omega arith
 
 pub closed-placed : (t : Table) (r : Slotted) → Shape t → r .slot < totalOf t → r .call .places ≡ replicate 4 noPlace → ClosedUp t → ClosedUp (placed t r)
 closed-placed t r s inside p o =
-    closed-slot t (flipped (t .occupied) (r .slot)) (r .slot) (r .call) inside s (λ j h e. absurd (not-taken (rw (p, alike noPlace (suc j)) at e))) o
+    closed-slot t (withUsed (t .occupied) (r .slot)) (r .slot) (r .call) inside s (λ j h e. absurd (not-taken (rw (p, alike noPlace (suc j)) at e))) o
 
 pub closed-added : (t : Table) (x : Held) → Shape t → MayAdd t x → ClosedUp t → ClosedUp (added t x)
 unfolding added addedUnder addedStandalone

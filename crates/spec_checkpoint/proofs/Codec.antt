@@ -7,17 +7,17 @@ use mathlib.Core.Path.{_≡_, refl, sym, ap, _∙_}
 use mathlib.Core.List.{List, [], _∷_, _++_, append-assoc}
 use mathlib.Core.Bool.{true, _&&_}
 use lib.Dec.{eqb}
-use lib.ListN.{length, getD, take, drop, replicate, length-append}
+use lib.ListN.{length, getD, take, drop, length-append}
 use lib.Seq.{getD-append-add, take-append-seam, drop-append-seam}
 use borrow.Author.Tests.{eqb-true}
 use Rattle.numbers.specs.BigEndian.{be24At, be32At, bytes16, bytes24, bytes32}
 use Rattle.lists.proofs.Tests.{both}
 use Rattle.table.specs.Table.{Call}
-use Rattle.table.specs.Zeros.{noPlace}
 use Rattle.table.specs.Lists.{Held}
 use Rattle.table.specs.Rules.{validIds, unusedClear, callFreeClear}
 use Rattle.spec_changes.proofs.Valid.{ids-named}
 use Rattle.spec_checkpoint.specs.Layout.{slottedAt, callBytes, heldAtByte, connectionBytes}
+use Rattle.spec_checkpoint.specs.Places.{withoutPlaces}
 use Rattle.spec_checkpoint.proofs.Blocks.{Split, read, read16, read24, read32}
 
 -- ---- numbers
@@ -47,21 +47,6 @@ connection-back s at x i =
     )
 
 -- ---- a call
-
--- a call without its connections, as its record has it
-abbrev pub bare : Call → Call
-bare c = record {
-  endpoint = c .endpoint;
-  sender = c .sender;
-  refreshed = c .refreshed;
-  epoch = c .epoch;
-  identifier = c .identifier;
-  id = c .id;
-  made = c .made;
-  size = c .size;
-  name = c .name;
-  places = replicate 4 noPlace;
-}
 
 pub call-size : (slot : ℕ) (c : Call) → length (c .name) ≡ 32 → length (callBytes slot c) ≡ 55
 call-size slot c n =
@@ -114,7 +99,7 @@ module _ (s : List ℕ) (at slot : ℕ) (c : Call) (n : length (c .name) ≡ 32)
       let size : length (i .before ++ front) ≡ at + 12 = length-append (i .before) front ∙ ap (λ (k : ℕ). k + 12) (i .size) in
       rw (← size, listIf, drop-append-seam (i .before ++ front) (c .name ++ rest), ← n) (take-append-seam (c .name) rest)
 
-  pub call-back : validIds c ≡ true → callFreeClear c ≡ true → slottedAt s at ≡ record { slot = slot; call = bare c }
+  pub call-back : validIds c ≡ true → callFreeClear c ≡ true → slottedAt s at ≡ record { slot = slot; call = withoutPlaces c }
   call-back w t =
       let u = unused c t in
       let few = ids-named c w .most in

@@ -7,20 +7,20 @@ use mathlib.Core.List.{List, [], _∷_}
 use mathlib.Core.Bool.{Bool, true, false, or-true}
 use lib.Dec.{eqb}
 use borrow.Author.Tests.{lt-ltb, not-false}
-use Rattle.lists.specs.Count.{bit, count, has}
+use Rattle.lists.specs.Count.{bit, countIf, has}
 use Rattle.lists.specs.Below.{below}
 use Rattle.lists.proofs.Count.{has-false, false-has, no-bit}
 use Rattle.lists.proofs.Below.{count-below, count-at}
 use Rattle.table.specs.Table.{Table}
 use Rattle.table.specs.Lists.{roster, Entry, entries, Held, held}
-use Rattle.table.specs.Share.{listed}
-use Rattle.table.specs.Rules.{sameLsp}
+use Rattle.table.specs.Share.{isListed}
+use Rattle.table.specs.Rules.{sameConnection}
 use Rattle.spec_changes.specs.Shape.{Shape}
 use Rattle.spec_changes.specs.Connections.{sameFour, isCallOf, added, callMissing}
 use Rattle.spec_changes.proofs.Alike.{self, lsp-self}
 use Rattle.spec_changes.proofs.Kept.{Kept}
 use Rattle.spec_changes.proofs.CallMissing.{no-call-missing}
-use Rattle.spec_changes.proofs.Added.{added-roster, added-entries, added-held, added-shape, added-kept}
+use Rattle.spec_changes.proofs.Added.{MayAdd, added-roster, added-entries, added-held, added-shape, added-kept}
 use Rattle.spec_checkpoint.specs.Layout.{connectionsIn, connectionRecord}
 use Rattle.spec_checkpoint.specs.Salvage.{connectionFits, withConnections}
 use Rattle.spec_checkpoint.proofs.Salvaged.{RecordsFit, may-add}
@@ -32,25 +32,25 @@ pub record Joined (over : Table) (s : List ℕ) (n : ℕ) : Type 0 where
   pub shape : Shape (withConnections over s n)
   pub kept : Kept (withConnections over s n)
   pub same : roster (withConnections over s n) ≡ roster over
-  pub calls : (p : Entry → Bool) → count p (entries (withConnections over s n)) ≡ count p (entries over)
-  pub connections : (p : Held → Bool) → count p (held (withConnections over s n)) ≡ count p (below (λ k. connectionRecord s k ∷ []) n)
+  pub calls : (p : Entry → Bool) → countIf p (entries (withConnections over s n)) ≡ countIf p (entries over)
+  pub connections : (p : Held → Bool) → countIf p (held (withConnections over s n)) ≡ countIf p (below (λ k. connectionRecord s k ∷ []) n)
 
 -- the records are such as a place may hold, since those of the other table are
-pub records-fit : (t : Table) (s : List ℕ) → Kept t → ((p : Held → Bool) → count p (below (λ k. connectionRecord s k ∷ []) (connectionsIn s)) ≡ count p (held t)) → RecordsFit s
+pub records-fit : (t : Table) (s : List ℕ) → Kept t → ((p : Held → Bool) → countIf p (below (λ k. connectionRecord s k ∷ []) (connectionsIn s)) ≡ countIf p (held t)) → RecordsFit s
 records-fit t s k all n h =
     not-false _ (no-bit (placeUnfit (connectionRecord s n))
     (omega (arith, count-at (λ k. connectionRecord s k ∷ []) placeUnfit n (connectionsIn s) h, all placeUnfit, places-fit t k)))
 
-module _ (t over : Table) (s : List ℕ) (k : Kept t) (all : (p : Held → Bool) → count p (below (λ k. connectionRecord s k ∷ []) (connectionsIn s)) ≡ count p (held t))
+module _ (t over : Table) (s : List ℕ) (k : Kept t) (all : (p : Held → Bool) → countIf p (below (λ k. connectionRecord s k ∷ []) (connectionsIn s)) ≡ countIf p (held t))
     (shape : Shape over) (kept : Kept over) (same : roster over ≡ roster t)
-    (calls : (p : Entry → Bool) → count p (entries over) ≡ count p (entries t)) (idle : (p : Held → Bool) → count p (held over) ≡ 0) where
+    (calls : (p : Entry → Bool) → countIf p (entries over) ≡ countIf p (entries t)) (idle : (p : Held → Bool) → countIf p (held over) ≡ 0) where
   abbrev g : ℕ → List Held
   g n = connectionRecord s n ∷ []
 
-  one : (n : ℕ) → n < connectionsIn s → (p : Held → Bool) → bit (p (connectionRecord s n)) ≤ count p (held t)
+  one : (n : ℕ) → n < connectionsIn s → (p : Held → Bool) → bit (p (connectionRecord s n)) ≤ countIf p (held t)
   one n h p = omega (arith, count-at g p n (connectionsIn s) h, all p)
 
-  more : (n : ℕ) → n < connectionsIn s → (p : Held → Bool) → bit (p (connectionRecord s n)) + count p (below g n) ≤ count p (held t)
+  more : (n : ℕ) → n < connectionsIn s → (p : Held → Bool) → bit (p (connectionRecord s n)) + countIf p (below g n) ≤ countIf p (held t)
   more n h p = omega (arith, count-below g p n, count-prefix g p (suc n) (connectionsIn s) h, all p)
 
   same-four-self : (x : Held) → sameFour x x ≡ true
@@ -63,20 +63,20 @@ module _ (t over : Table) (s : List ℕ) (k : Kept t) (all : (p : Held → Bool)
     abbrev x : Held
     x = connectionRecord s n
 
-    known : listed (roster u) (x .lsp .sender) ≡ true
+    known : isListed (roster u) (x .lsp .sender) ≡ true
     known = rw (b .same ∙ same) (not-false _ (no-bit _ (omega (arith, one n h (senderUnlisted t), senders-hold t k))))
 
-    new : has (sameLsp x) (held u) ≡ false
+    new : has (sameConnection x) (held u) ≡ false
     new =
-        let own : bit (sameLsp x x) ≡ 1 = rw (lsp-self x) in
-        false-has (sameLsp x) (held u) (omega (arith, own, b .connections (sameLsp x), more n h (sameLsp x), k .once x))
+        let own : bit (sameConnection x x) ≡ 1 = rw (lsp-self x) in
+        false-has (sameConnection x) (held u) (omega (arith, own, b .connections (sameConnection x), more n h (sameConnection x), k .once x))
 
     called : callMissing (entries u) x ≡ false
     called =
         rw (b .calls (isCallOf x) ∙ calls (isCallOf x))
         (no-bit _ (omega (arith, one n h (callMissing (entries t)), has-false (callMissing (entries t)) (held t) (no-call-missing t))))
 
-    room : count (sameFour x) (held u) < 4
+    room : countIf (sameFour x) (held u) < 4
     room =
         let own : bit (sameFour x x) ≡ 1 = rw (same-four-self x) in
         omega (arith, own, b .connections (sameFour x), more n h (sameFour x), fours-hold t k x)
@@ -85,20 +85,21 @@ module _ (t over : Table) (s : List ℕ) (k : Kept t) (all : (p : Held → Bool)
     unfolding connectionFits
     fits = rw (known, new, called, lt-ltb _ 4 room)
 
-    goes-on : withConnections over s (suc n) ≡ added u x
+    pub may : MayAdd (withConnections over s n) (connectionRecord s n)
+    may = may-add u x (records-fit t s k all n h) fits
+
+    pub goes-on : withConnections over s (suc n) ≡ added (withConnections over s n) (connectionRecord s n)
     unfolding withConnections
     goes-on = rw fits
 
     step : Joined over s (suc n)
-    step =
-        let m = may-add u x (records-fit t s k all n h) fits in
-        record {
-          shape = rw goes-on (added-shape u x (b .shape) m);
-          kept = rw goes-on (added-kept u x (b .shape) m (b .kept));
-          same = rw goes-on (added-roster u x (b .shape) m ∙ b .same);
-          calls = λ p. rw goes-on (added-entries u x (b .shape) m p ∙ b .calls p);
-          connections = λ p. rw goes-on (omega (arith, added-held u x (b .shape) m p, b .connections p, count-below g p n));
-        }
+    step = record {
+      shape = rw goes-on (added-shape u x (b .shape) may);
+      kept = rw goes-on (added-kept u x (b .shape) may (b .kept));
+      same = rw goes-on (added-roster u x (b .shape) may ∙ b .same);
+      calls = λ p. rw goes-on (added-entries u x (b .shape) may p ∙ b .calls p);
+      connections = λ p. rw goes-on (omega (arith, added-held u x (b .shape) may p, b .connections p, count-below g p n));
+    }
 
   -- all of the first n are kept
   pub joined-all : (n : ℕ) → n ≤ connectionsIn s → Joined over s n

@@ -8,16 +8,16 @@ use mathlib.Core.List.{List, []}
 use mathlib.Core.Bool.{Bool, true, false, not, _&&_, _||_, and-true, and-false}
 use lib.Dec.{ltb, eqb}
 use borrow.Author.Tests.{eq-eqb, ne-eqb, eqb-true, eqb-false}
-use Rattle.lists.specs.Count.{bit, count}
-use Rattle.lists.specs.Below.{when, listIf, below}
+use Rattle.lists.specs.Count.{bit, countIf}
+use Rattle.lists.specs.Below.{elementIf, listIf, below}
 use Rattle.lists.proofs.Count.{count-ext, count-append, true-has, one-bit, no-bit}
 use Rattle.lists.proofs.Tests.{both}
-use Rattle.lists.proofs.Below.{count-when, count-list-if, count-below, count-none, count-at, every-at}
+use Rattle.lists.proofs.Below.{count-element, count-list-if, count-below, count-none, count-at, every-at}
 use Rattle.table.specs.Table.{Call, Table}
 use Rattle.table.specs.Total.{totalOf}
 use Rattle.table.specs.Word.{isUsed}
 use Rattle.table.specs.Lists.{customerAt, termsOf, listedAt, roster, Ids, Entry, idsOf, callAt, openAt, entries, Held, Four, callFour, customerFour, placeAt, isTaken, connectionAt, heldPlace, heldIn, heldAt, standaloneAt, held}
-use Rattle.table.specs.Share.{isAt, listed}
+use Rattle.table.specs.Share.{isAt, isListed}
 use Rattle.table.specs.Rules.{unlisted, sameShort, placeValid, fourValid, unusedClear, callFreeClear, customerFreeClear}
 use Rattle.spec_changes.specs.Connections.{sameFour, placeFor, isCallOf}
 use Rattle.spec_changes.proofs.Valid.{ids-named}
@@ -28,37 +28,37 @@ use Rattle.spec_changes.proofs.Told.{roster-kept}
 -- ---- rows of four, of which a test picks at most one
 
 -- a four has at most four that pass, and none where none of its connections does
-at-most : (q : Held → Bool) (f : Four) (b : Bool) → (b ≡ false → (j : ℕ) → q (connectionAt f j) ≡ false) → count q (heldIn f) ≤ 4 * bit b
+at-most : (q : Held → Bool) (f : Four) (b : Bool) → (b ≡ false → (j : ℕ) → q (connectionAt f j) ≡ false) → countIf q (heldIn f) ≤ 4 * bit b
 at-most q f true h =
     omega (arith, count-below (heldPlace f) q 0, count-below (heldPlace f) q 1, count-below (heldPlace f) q 2, count-below (heldPlace f) q 3, count-none (heldPlace f) q, one 0, one 1, one 2, one 3)
   where
-    one : (j : ℕ) → count q (heldPlace f j) ≤ 1
-    one j = rw (count-when q (isTaken (placeAt f j)) (connectionAt f j)) (one-bit (isTaken (placeAt f j) && q (connectionAt f j)))
+    one : (j : ℕ) → countIf q (heldPlace f j) ≤ 1
+    one j = rw (count-element q (isTaken (placeAt f j)) (connectionAt f j)) (one-bit (isTaken (placeAt f j) && q (connectionAt f j)))
 at-most q f false h = omega (arith, none-in q f (λ j _ _. h refl j))
 
 -- what the rows have is four times what the test picks, at most
 module _ {ℓ ℓ′} {A : Type ℓ} {B : Type ℓ′} (q : A → Bool) (h : B → Bool) (u : ℕ → Bool) (l : ℕ → List A) (y : ℕ → B) where
-  pub rows-bound : (n : ℕ) → ((i : ℕ) → i < n → u i ≡ true → count q (l i) ≤ 4 * bit (h (y i)))
-      → count q (below (λ i. listIf (u i) (l i)) n) ≤ 4 * count h (below (λ i. when (u i) (y i)) n)
+  pub rows-bound : (n : ℕ) → ((i : ℕ) → i < n → u i ≡ true → countIf q (l i) ≤ 4 * bit (h (y i)))
+      → countIf q (below (λ i. listIf (u i) (l i)) n) ≤ 4 * countIf h (below (λ i. elementIf (u i) (y i)) n)
   rows-bound zero f = omega (arith, count-none (λ i. listIf (u i) (l i)) q)
   rows-bound (suc n) f =
       omega (
         arith,
         rows-bound n (λ i b. f i (omega arith)),
         count-below (λ i. listIf (u i) (l i)) q n,
-        count-below (λ i. when (u i) (y i)) h n,
+        count-below (λ i. elementIf (u i) (y i)) h n,
         by (u n) refl,
       )
     where
-      by : (b : Bool) → u n ≡ b → count q (listIf (u n) (l n)) ≤ 4 * count h (when (u n) (y n))
-      by true e = rw (count-list-if q (u n) (l n), count-when h (u n) (y n), e) (f n (omega arith) e)
+      by : (b : Bool) → u n ≡ b → countIf q (listIf (u n) (l n)) ≤ 4 * countIf h (elementIf (u n) (y n))
+      by true e = rw (count-list-if q (u n) (l n), count-element h (u n) (y n), e) (f n (omega arith) e)
       by false e = rw (count-list-if q (u n) (l n), e) (omega arith)
 
 -- ---- the fours
 
 module _ (t : Table) (k : Kept t) (x : Held) where
   -- the call of a connection is one at most
-  one-call : count (isCallOf x) (entries t) ≤ 1
+  pub one-call : countIf (isCallOf x) (entries t) ≤ 1
   unfolding sameShort
   one-call =
       let c : Ids = record { endpoint = x .lsp .endpoint; sender = x .lsp .sender; short = x .call; long = [] } in
@@ -73,7 +73,7 @@ module _ (t : Table) (k : Kept t) (x : Held) where
       by false false c = refl
 
   -- under calls: those of one call where the Call ID is not 0, none where it is
-  under-some : (x .call ≡ 0 → ⊥) → count (sameFour x) (below (heldAt t) (totalOf t)) ≤ 4
+  under-some : (x .call ≡ 0 → ⊥) → countIf (sameFour x) (below (heldAt t) (totalOf t)) ≤ 4
   under-some n =
       omega (
         arith,
@@ -91,11 +91,11 @@ module _ (t : Table) (k : Kept t) (x : Held) where
       elsewhere c e j = rw (ne-eqb (x .call) 0 n) (not-own (eqb (x .call) (c .id)) (eqb (x .lsp .sender) (c .sender)) (eqb (x .lsp .endpoint) (c .endpoint)) e)
 
   -- a call's ID is not 0
-  under-none : x .call ≡ 0 → count (sameFour x) (below (heldAt t) (totalOf t)) ≡ 0
+  under-none : x .call ≡ 0 → countIf (sameFour x) (below (heldAt t) (totalOf t)) ≡ 0
   under-none e = none-under (sameFour x) t (λ i l u j _ _. rw (e, ne-eqb 0 (callAt t i .id) (omega (arith, ids-named (callAt t i) (k .names i l u) .some))))
 
   -- with Call ID 0: those of one customer where it is 0, none where it is not
-  standalone-some : count (sameFour x) (below (standaloneAt t) 8) ≤ 4
+  standalone-some : countIf (sameFour x) (below (standaloneAt t) 8) ≤ 4
   standalone-some =
       omega (
         arith,
@@ -104,13 +104,13 @@ module _ (t : Table) (k : Kept t) (x : Held) where
             (λ i l u. at-most (sameFour x) (customerFour (customerAt t i)) (isAt (x .lsp .sender) (termsOf (customerAt t i))) (λ e j. rw (e, and-false (eqb (x .call) 0)))),
       )
 
-  standalone-none : (x .call ≡ 0 → ⊥) → count (sameFour x) (below (standaloneAt t) 8) ≡ 0
+  standalone-none : (x .call ≡ 0 → ⊥) → countIf (sameFour x) (below (standaloneAt t) 8) ≡ 0
   standalone-none n = none-standalone (sameFour x) t (λ i l u j _ _. rw (ne-eqb (x .call) 0 n))
 
-  pub fours-hold : count (sameFour x) (held t) ≤ 4
+  pub fours-hold : countIf (sameFour x) (held t) ≤ 4
   fours-hold = by (eqb (x .call) 0) refl
     where
-      by : (b : Bool) → eqb (x .call) 0 ≡ b → count (sameFour x) (held t) ≤ 4
+      by : (b : Bool) → eqb (x .call) 0 ≡ b → countIf (sameFour x) (held t) ≤ 4
       by true e = omega (arith, count-append (sameFour x) (below (heldAt t) (totalOf t)) (below (standaloneAt t) 8), under-none (eqb-true _ _ e), standalone-some)
       by false e =
           omega (
@@ -124,24 +124,24 @@ module _ (t : Table) (k : Kept t) (x : Held) where
 
 -- a connection whose sender is not in the roster
 abbrev pub senderUnlisted : Table → Held → Bool
-senderUnlisted t x = not (listed (roster t) (x .lsp .sender))
+senderUnlisted t x = not (isListed (roster t) (x .lsp .sender))
 
 module _ (t : Table) (k : Kept t) where
   -- under a call it is the call's
-  call-sender : (i : ℕ) → i < totalOf t → isUsed (t .occupied) i ≡ true → not (listed (roster t) (callAt t i .sender)) ≡ false
+  call-sender : (i : ℕ) → i < totalOf t → isUsed (t .occupied) i ≡ true → not (isListed (roster t) (callAt t i .sender)) ≡ false
   call-sender i l u =
       let e : Entry = record { slot = i; ids = idsOf (callAt t i) } in
-      let here : count (unlisted (roster t)) (openAt t i) ≡ bit (unlisted (roster t) e) = count-when (unlisted (roster t)) (isUsed (t .occupied) i) e ∙ rw u in
+      let here : countIf (unlisted (roster t)) (openAt t i) ≡ bit (unlisted (roster t) e) = count-element (unlisted (roster t)) (isUsed (t .occupied) i) e ∙ rw u in
       no-bit _ (omega (arith, here, count-at (openAt t) (unlisted (roster t)) i (totalOf t) l, k .calls .senders))
 
   -- with Call ID 0 it is the customer
-  customer-sender : (i : ℕ) → i < 8 → ltb i (t .listed) ≡ true → not (listed (roster t) (customerAt t i .address)) ≡ false
+  customer-sender : (i : ℕ) → i < 8 → ltb i (t .listed) ≡ true → not (isListed (roster t) (customerAt t i .address)) ≡ false
   customer-sender i l u =
       let a = customerAt t i .address in
-      let here : count (isAt a) (listedAt t i) ≡ 1 = count-when (isAt a) (ltb i (t .listed)) (termsOf (customerAt t i)) ∙ rw (u, eq-eqb a a refl) in
+      let here : countIf (isAt a) (listedAt t i) ≡ 1 = count-element (isAt a) (ltb i (t .listed)) (termsOf (customerAt t i)) ∙ rw (u, eq-eqb a a refl) in
       rw (true-has (isAt a) (roster t) (omega (arith, here, count-at (listedAt t) (isAt a) i 8 l)))
 
-  pub senders-hold : count (senderUnlisted t) (held t) ≡ 0
+  pub senders-hold : countIf (senderUnlisted t) (held t) ≡ 0
   senders-hold = none-held (senderUnlisted t) t (λ i l u j _ _. call-sender i l u) (λ i l u j _ _. customer-sender i l u)
 
 -- ---- the IDs
@@ -164,7 +164,7 @@ module _ (t : Table) (k : Kept t) where
   unfolding customerFreeClear
   standalone-valid i l u = let h : customerFreeClear (customerAt t i) ≡ true = rw u at (k .records i l) in both (fourValid (customerFour (customerAt t i))) _ h .0
 
-  pub places-fit : count placeUnfit (held t) ≡ 0
+  pub places-fit : countIf placeUnfit (held t) ≡ 0
   places-fit =
       none-held placeUnfit t
       (λ i l u j. taken-fits (callFour (callAt t i)) j (under-valid i l u))

@@ -5,9 +5,14 @@ pub mod Part
 pub mod AllKept
 pub mod Fours
 pub mod Connected
+pub mod Order
+pub mod Standing
 pub mod Blocks
 pub mod Codec
 pub mod Slots
 pub mod Written
+pub mod Writing
 pub mod RoundTrip
 pub mod Named
+pub mod Choice
+pub mod Dropped

@@ -3,39 +3,45 @@
 -- Assumes nothing.
 use Prim.Native.Nat.{ℕ, _+_, _<_}
 use native.Mathlib.Omega.{arith}
-use mathlib.Core.Path.{_≡_}
-use mathlib.Core.List.{[]}
+use mathlib.Core.Path.{_≡_, refl}
+use mathlib.Core.List.{List, []}
 use mathlib.Core.Bool.{Bool, true, false}
-use Rattle.lists.specs.Count.{bit, count}
+use Rattle.lists.specs.Count.{bit, countIf}
+use Rattle.lists.specs.Below.{elementIf, below}
 use Rattle.table.specs.Table.{Table}
 use Rattle.table.specs.Total.{totalOf}
-use Rattle.table.specs.Word.{isUsed, flipped}
+use Rattle.table.specs.Word.{isUsed, withUsed}
 use Rattle.table.specs.Lists.{roster, idsOf, Entry, entries, Held, callFour, heldIn, held}
-use Rattle.table.specs.Rules.{rosterHolds, validIds, sameLsp, callFreeClear}
-use Rattle.table.proofs.Slots.{flipped-free, flipped-other}
+use Rattle.table.specs.Rules.{rosterHolds, validIds, sameConnection, callFreeClear}
+use Rattle.table.proofs.Slots.{used-here, used-other}
 use Rattle.spec_changes.specs.Shape.{Shape}
 use Rattle.spec_changes.proofs.Kept.{CallsKept, Kept}
 use Rattle.spec_changes.proofs.Slot.{slot-entries, slot-held, slot-names, slot-free-clear}
-use Rattle.spec_checkpoint.specs.Layout.{Slotted}
+use Rattle.spec_checkpoint.specs.Layout.{Slotted, callRecord}
 use Rattle.spec_checkpoint.specs.Salvage.{placed}
 
 abbrev pub entryOf : Slotted → Entry
 entryOf r = record { slot = r .slot; ids = idsOf (r .call) }
 
+-- a record has no connections in its call's places
+pub record-bare : (s : List ℕ) (i : ℕ) → heldIn (callFour (callRecord s i .call)) ≡ []
+unfolding below elementIf
+record-bare s i = refl
+
 module _ (t : Table) (r : Slotted) (s : Shape t) (inside : r .slot < totalOf t) (was : isUsed (t .occupied) (r .slot) ≡ false) (none : heldIn (callFour (r .call)) ≡ []) where
   abbrev word : ℕ
-  word = flipped (t .occupied) (r .slot)
+  word = withUsed (t .occupied) (r .slot)
 
   is : isUsed word (r .slot) ≡ true
-  is = flipped-free (t .occupied) (r .slot) was
+  is = used-here (t .occupied) (r .slot)
 
   other : (j : ℕ) → (j ≡ r .slot → ⊥) → isUsed word j ≡ isUsed (t .occupied) j
-  other = flipped-other (t .occupied) (r .slot)
+  other = used-other (t .occupied) (r .slot)
 
-  pub placed-entries : (p : Entry → Bool) → count p (entries (placed t r)) ≡ bit (p (entryOf r)) + count p (entries t)
+  pub placed-entries : (p : Entry → Bool) → countIf p (entries (placed t r)) ≡ bit (p (entryOf r)) + countIf p (entries t)
   placed-entries p = omega (arith, (rw (was, is) at (slot-entries t word (r .slot) (r .call) inside (s .calls) other p)))
 
-  pub placed-held : (p : Held → Bool) → count p (held (placed t r)) ≡ count p (held t)
+  pub placed-held : (p : Held → Bool) → countIf p (held (placed t r)) ≡ countIf p (held t)
   placed-held p = omega (arith, (rw (was, is, none) at (slot-held t word (r .slot) (r .call) inside (s .calls) other p)))
 
   pub placed-kept : Kept t → CallsKept (totalOf t) (roster t) (entries (placed t r)) → validIds (r .call) ≡ true → callFreeClear (r .call) ≡ true → Kept (placed t r)
@@ -43,7 +49,7 @@ module _ (t : Table) (r : Slotted) (s : Shape t) (inside : r .slot < totalOf t) 
   placed-kept k calls listIf clear = record {
     accepted = k .accepted;
     calls = calls;
-    once = λ x. rw (placed-held (sameLsp x)) (k .once x);
+    once = λ x. rw (placed-held (sameConnection x)) (k .once x);
     names = slot-names t word (r .slot) (r .call) inside (s .calls) other (k .names) (λ u. listIf);
     slots = slot-free-clear t word (r .slot) (r .call) inside (s .calls) other (k .slots) (rw is clear);
     records = k .records;

@@ -10,16 +10,16 @@ use borrow.Author.Tests.{eq-eqb, eqb-true}
 use Rattle.numbers.specs.BigEndian.{Bytes}
 use Rattle.numbers.specs.Search.{isIn}
 use Rattle.table.specs.declared.answer.RosterAnswer.{RosterAnswer}
-use Rattle.table.specs.declared.answer.RosterAnswer.the-variants.{Accepted, Short, Form, Length, SpareBits, Share, Repeated, Guarantees}
-use Rattle.table.specs.Total.{total}
+use Rattle.table.specs.declared.answer.RosterAnswer.the-variants.{Accepted, Short, BadForm, Length, SpareBits, Share, Repeated, Guarantees}
 use Rattle.table.specs.Lists.{Terms, roster, entries}
 use Rattle.table.specs.Rules.{rulesHold}
 use Rattle.table.specs.Roster.{customersIn, recordsIn, rosterNumber, rosterAnswer, freshTable, tableFor, formIn}
 use Rattle.table.proofs.Fresh.{fresh-holds, empty-holds, fresh-roster}
 use Rattle.spec_changes.proofs.Fresh.{fresh-shape}
-use Rattle.spec_promises.specs.Promises.{Input, AtEveryStep, Promised}
-use Rattle.spec_promises.proofs.Demand3.{accepted, demand3-from}
+use Rattle.spec_promises.specs.Promises.{Agrees}
+use Rattle.spec_promises.proofs.Demand3.{accepted, demand3-from, agrees-from, connections-from}
 use Rattle.spec_checkpoint.specs.Restored.{Restored, badSize, unrestored, fromCheckpoint, dropsNone, restored}
+use Rattle.spec_checkpoint.specs.Claims.{RestoredHolds, SalvageAnswers, PlainSame, Plain72, Demand3Restored, AgreesRestored, ConnectionsRestored}
 use Rattle.spec_checkpoint.proofs.Closed.{closed-fresh}
 use Rattle.spec_checkpoint.proofs.Salvaged.{Sound, RecordsFit, bytes-fit, salvaged-sound}
 
@@ -28,7 +28,7 @@ use Rattle.spec_checkpoint.proofs.Salvaged.{Sound, RecordsFit, bytes-fi
 abbrev terms : List ℕ → List Terms
 terms r = recordsIn r (customersIn r)
 
-fresh-sound : (r : List ℕ) → Bytes r → rosterAnswer r ≡ Accepted → Sound (terms r) (freshTable r)
+pub fresh-sound : (r : List ℕ) → Bytes r → rosterAnswer r ≡ Accepted → Sound (terms r) (freshTable r)
 fresh-sound r b e = record { shape = fresh-shape r; rules = fresh-holds r b e; roster = fresh-roster r e; closed = closed-fresh r }
 
 pub checkpoint-sound : (r s : List ℕ) → Bytes r → RecordsFit s → rosterAnswer r ≡ Accepted → Sound (terms r) (fromCheckpoint r s .table)
@@ -53,8 +53,7 @@ restored-sound salvage r s b d e =
     let a = accepted (rosterAnswer r) e in
     read-as (λ f. Sound (terms r) (f .table)) salvage r s e (λ n. fresh-sound r b a) (checkpoint-sound r s b (bytes-fit s d) a)
 
--- "whatever bytes are read, the table given keeps the rules"
-pub restored-holds : (salvage : Bool) (r s : List ℕ) → Bytes r → Bytes s → rulesHold (restored salvage r s .table) ≡ true
+pub restored-holds : RestoredHolds
 unfolding restored tableFor
 restored-holds salvage r s b d = by (eqb (rosterNumber (rosterAnswer r)) 0) refl
   where
@@ -62,8 +61,7 @@ restored-holds salvage r s b d = by (eqb (rosterNumber (rosterAnswer r)) 0) refl
     by true q = restored-sound salvage r s b d (eqb-true _ _ q) .rules
     by false q = rw q empty-holds
 
--- "salvage of an accepted roster answers 0, 70 or 71 only"
-pub salvage-answers : (r s : List ℕ) → rosterNumber (rosterAnswer r) ≡ 0 → isIn (restored true r s .answer) (0 ∷ 70 ∷ 71 ∷ []) ≡ true
+pub salvage-answers : SalvageAnswers
 unfolding restored fromCheckpoint isIn
 salvage-answers r s e = rw (eq-eqb _ _ e) (by (badSize s) (not (eqb (formIn s) 1)))
   where
@@ -74,8 +72,7 @@ salvage-answers r s e = rw (eq-eqb _ _ e) (by (badSize s) (not (eqb (formIn s) 1
 
 -- ---- plain and salvage
 
--- where salvage drops nothing, plain reading gives the same, answer and table
-pub plain-same : (r s : List ℕ) → dropsNone (restored true r s) ≡ true → restored false r s ≡ restored true r s
+pub plain-same : PlainSame
 unfolding restored
 plain-same r s h = by (not (eqb (rosterNumber (rosterAnswer r)) 0)) (badSize s) (not (eqb (formIn s) 1)) h
   where
@@ -88,8 +85,7 @@ plain-same r s h = by (not (eqb (rosterNumber (rosterAnswer r)) 0)) (badSize s) 
     by false false true h = refl
     by false false false h = rw h
 
--- plain reading answers 72 exactly when salvage drops something
-pub plain-72 : (r s : List ℕ) → eqb (restored false r s .answer) 72 ≡ not (dropsNone (restored true r s))
+pub plain-72 : Plain72
 unfolding restored fromCheckpoint
 plain-72 r s = by (rosterAnswer r) (badSize s) (not (eqb (formIn s) 1)) (dropsNone (fromCheckpoint r s)) refl
   where
@@ -101,18 +97,32 @@ plain-72 r s = by (rosterAnswer r) (badSize s) (not (eqb (formIn s) 1)) (dropsNo
     by Accepted false false true q = rw q
     by Accepted false false false q = rw q
     by Short b c d q = refl
-    by Form b c d q = refl
+    by BadForm b c d q = refl
     by Length b c d q = refl
     by SpareBits b c d q = refl
     by Share b c d q = refl
     by Repeated b c d q = refl
     by Guarantees b c d q = refl
 
--- ---- demand 3 from a table that was read: the ledger holds its calls, and counts them as opened
+-- ---- demand 3 from a table that was read
 
-pub demand3-restored : (salvage : Bool) (r s : List ℕ) → Bytes r → Bytes s → rosterNumber (rosterAnswer r) ≡ 0 → (xs : List Input)
-    → AtEveryStep (Promised total (recordsIn r (customersIn r)) (entries (restored salvage r s .table))) (restored salvage r s .table) [] xs
-demand3-restored salvage r s b d e xs =
+restored-agrees : (salvage : Bool) (r s : List ℕ) → Bytes r → Bytes s → rosterNumber (rosterAnswer r) ≡ 0
+    → Agrees (restored salvage r s .table) (entries (restored salvage r s .table))
+restored-agrees salvage r s b d e =
     let i = restored-sound salvage r s b d e in
+    record { shape = i .shape; rules = i .rules; calls = λ p. refl }
+
+pub demand3-restored : Demand3Restored
+demand3-restored salvage r s b d e xs =
     let t = restored salvage r s .table in
-    rw (← (i .roster)) (demand3-from t (entries t) (record { shape = i .shape; rules = i .rules; calls = λ p. refl }) xs)
+    rw (← (restored-sound salvage r s b d e .roster)) (demand3-from t (entries t) (restored-agrees salvage r s b d e) xs)
+
+pub agrees-restored : AgreesRestored
+agrees-restored salvage r s b d e xs =
+    let t = restored salvage r s .table in
+    agrees-from t (entries t) (restored-agrees salvage r s b d e) xs
+
+pub connections-restored : ConnectionsRestored
+connections-restored salvage r s b d e xs =
+    let t = restored salvage r s .table in
+    connections-from t (entries t) (restored-agrees salvage r s b d e) xs

@@ -19,12 +19,12 @@ use Rattle.table.specs.Total.{totalOf}
 use Rattle.table.specs.Word.{isUsed}
 use Rattle.table.specs.Zeros.{noPlace}
 use Rattle.table.specs.Lists.{Terms, roster, Held, held, entries}
-use Rattle.table.specs.Share.{listed}
-use Rattle.table.specs.Rules.{sameLsp, placeValid, rulesHold}
+use Rattle.table.specs.Share.{isListed}
+use Rattle.table.specs.Rules.{sameConnection, placeValid, rulesHold}
 use Rattle.spec_changes.specs.Shape.{Shape}
 use Rattle.spec_changes.specs.Connections.{placeFor, added, callMissing}
 use Rattle.spec_changes.proofs.Valid.{valid-place}
-use Rattle.spec_changes.proofs.Opened.{flipped-shape}
+use Rattle.spec_changes.proofs.Opened.{used-shape}
 use Rattle.spec_changes.proofs.Added.{MayAdd, added-roster, added-shape, added-kept}
 use Rattle.spec_changes.proofs.Told.{rules-kept, kept-rules}
 use Rattle.spec_checkpoint.specs.Layout.{Slotted, callsIn, connectionsIn, callRecord, connectionRecord}
@@ -47,14 +47,14 @@ either P false t u p q = p
 -- ---- calls
 
 -- a record that step 2 keeps names a slot within the total
-kept-inside : (fresh : Table) (s : List ℕ) (i : ℕ) → keptByLongId fresh s i ≡ true → callRecord s i .slot < totalOf fresh
+pub kept-inside : (fresh : Table) (s : List ℕ) (i : ℕ) → keptByLongId fresh s i ≡ true → callRecord s i .slot < totalOf fresh
 unfolding keptByLongId soundAlone
 kept-inside fresh s i h = ltb-true _ _ (both _ _ (both _ _ h .0) .0)
 
 call-sound : (r : List Terms) (t : Table) (c : Slotted) → c .slot < totalOf t → c .call .places ≡ replicate 4 noPlace → callFits t c ≡ true → Sound r t → Sound r (placed t c)
 unfolding callFits
 call-sound r t c h p f i = record {
-  shape = flipped-shape t (c .slot) (c .call) (i .shape) h (ap length p);
+  shape = used-shape t (c .slot) (c .call) (i .shape) h (ap length p);
   rules = both (not (isUsed (t .occupied) (c .slot))) _ f .1;
   roster = i .roster;
   closed = closed-placed t c (i .shape) h p (i .closed);
@@ -74,9 +74,9 @@ calls-sound r fresh s i (suc n) =
 pub may-add : (t : Table) (x : Held) → placeValid (placeFor (x .lsp)) ≡ true → connectionFits t x ≡ true → MayAdd t x
 unfolding connectionFits
 may-add t x v f =
-    let a = both (listed (roster t) (x .lsp .sender) && not (has (sameLsp x) (held t)) && not (callMissing (entries t) x)) _ f in
-    let b = both (listed (roster t) (x .lsp .sender) && not (has (sameLsp x) (held t))) _ (a .0) in
-    let c = both (listed (roster t) (x .lsp .sender)) _ (b .0) in
+    let a = both (isListed (roster t) (x .lsp .sender) && not (has (sameConnection x) (held t)) && not (callMissing (entries t) x)) _ f in
+    let b = both (isListed (roster t) (x .lsp .sender) && not (has (sameConnection x) (held t))) _ (a .0) in
+    let c = both (isListed (roster t) (x .lsp .sender)) _ (b .0) in
     record {
       known = c .0;
       new = has-false _ (held t) (not-true _ (c .1));

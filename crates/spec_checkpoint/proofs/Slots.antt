@@ -7,8 +7,8 @@ use mathlib.Core.Path.{_≡_, refl, sym, ap, _∙_}
 use mathlib.Core.List.{List, [], _∷_, _++_, map, map-append, append-assoc, append-nil}
 use mathlib.Core.Bool.{Bool, true, false, not}
 use lib.ListN.{length, getD}
-use Rattle.lists.specs.Count.{bit, count}
-use Rattle.lists.specs.Below.{when, listIf, below}
+use Rattle.lists.specs.Count.{bit, countIf}
+use Rattle.lists.specs.Below.{elementIf, listIf, below}
 use Rattle.spec_checkpoint.specs.Layout.{joined}
 use Rattle.spec_checkpoint.proofs.Blocks.{joined-append}
 
@@ -33,7 +33,7 @@ map-length f [] = refl
 map-length f (x ∷ l) = ap suc (map-length f l)
 
 -- an element of a list in which a test passes everywhere
-pub passes {ℓ} : {A : Type ℓ} (p : A → Bool) (d : A) (l : List A) → count (λ x. not (p x)) l ≡ 0 → (j : ℕ) → j < length l → p (getD l j d) ≡ true
+pub passes {ℓ} : {A : Type ℓ} (p : A → Bool) (d : A) (l : List A) → countIf (λ x. not (p x)) l ≡ 0 → (j : ℕ) → j < length l → p (getD l j d) ≡ true
 passes p d [] e j h = absurd (not-suc-le-zero h)
 passes p d (x ∷ l) e zero h = by (p x) (omega arith)
   where
@@ -47,22 +47,22 @@ passes p d (x ∷ l) e (suc j) h = passes p d l (omega arith) j (le-of-suc-le-su
 module _ (u : ℕ → Bool) where
   -- the used ones below a bound
   abbrev pub used : ℕ → List ℕ
-  used n = below (λ i. when (u i) i) n
+  used n = below (λ i. elementIf (u i) i) n
 
   pub used-blocks : (f : ℕ → List ℕ) (n : ℕ) → below (λ i. listIf (u i) (f i)) n ≡ joined f (used n)
-  unfolding below when listIf
+  unfolding below elementIf listIf
   used-blocks f zero = refl
-  used-blocks f (suc n) = rw (used-blocks f n, joined-append f (used n) (when (u n) n)) (ap (λ l. joined f (used n) ++ l) (by (u n)))
+  used-blocks f (suc n) = rw (used-blocks f n, joined-append f (used n) (elementIf (u n) n)) (ap (λ l. joined f (used n) ++ l) (by (u n)))
     where
-      by : (b : Bool) → listIf b (f n) ≡ joined f (when b n)
+      by : (b : Bool) → listIf b (f n) ≡ joined f (elementIf b n)
       by true = sym (append-nil (f n))
       by false = refl
 
-  pub used-elements {ℓ} : {A : Type ℓ} (e : ℕ → A) (n : ℕ) → below (λ i. when (u i) (e i)) n ≡ map e (used n)
-  unfolding below when
+  pub used-elements {ℓ} : {A : Type ℓ} (e : ℕ → A) (n : ℕ) → below (λ i. elementIf (u i) (e i)) n ≡ map e (used n)
+  unfolding below elementIf
   used-elements e zero = refl
-  used-elements e (suc n) = rw (used-elements e n, map-append e (used n) (when (u n) n)) (ap (λ l. map e (used n) ++ l) (by (u n)))
+  used-elements e (suc n) = rw (used-elements e n, map-append e (used n) (elementIf (u n) n)) (ap (λ l. map e (used n) ++ l) (by (u n)))
     where
-      by : (b : Bool) → when b (e n) ≡ map e (when b n)
+      by : (b : Bool) → elementIf b (e n) ≡ map e (elementIf b n)
       by true = refl
       by false = refl

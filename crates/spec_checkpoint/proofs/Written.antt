@@ -10,9 +10,9 @@ use lib.ListN.{length, getD, length-append}
 use borrow.Author.Tests.{lt-ltb, ltb-true}
 use Rattle.numbers.specs.BigEndian.{be16At}
 use Rattle.numbers.specs.Search.{zerosAt}
-use Rattle.lists.specs.Count.{bit, count}
-use Rattle.lists.specs.Below.{when, below, everyBelow}
-use Rattle.lists.proofs.Below.{count-when, count-nowhere, below-ext}
+use Rattle.lists.specs.Count.{bit, countIf}
+use Rattle.lists.specs.Below.{elementIf, below, everyBelow}
+use Rattle.lists.proofs.Below.{count-element, count-nowhere, below-ext}
 use Rattle.lists.proofs.Tests.{both}
 use Rattle.table.specs.Table.{Call, Table}
 use Rattle.table.specs.Total.{totalOf}
@@ -23,10 +23,11 @@ use Rattle.table.specs.Roster.{formIn}
 use Rattle.spec_changes.proofs.Slot.{open-most}
 use Rattle.spec_changes.proofs.Kept.{Kept}
 use Rattle.spec_checkpoint.specs.Layout.{Slotted, callsIn, connectionsIn, checkpointSize, callRecord, callBytes, connectionRecord, connectionBytes, joined, headBytes, checkpointOf}
+use Rattle.spec_checkpoint.specs.Places.{withoutPlaces}
 use Rattle.spec_checkpoint.proofs.Part.{entryOf}
 use Rattle.spec_checkpoint.proofs.AllKept.{Copied}
 use Rattle.spec_checkpoint.proofs.Blocks.{Split, Blocks, joined-length, joined-split, split-between, split-behind}
-use Rattle.spec_checkpoint.proofs.Codec.{back16, connection-size, connection-back, bare, call-size, call-back}
+use Rattle.spec_checkpoint.proofs.Codec.{back16, connection-size, connection-back, call-size, call-back}
 use Rattle.spec_checkpoint.proofs.Slots.{each-of, map-same, map-length, passes, used, used-blocks, used-elements}
 
 -- what an index past a list's end would read
@@ -60,8 +61,8 @@ module _ (t : Table) (k : Kept t) (names : (i : ℕ) → i < totalOf t → lengt
   in-use : (j : ℕ) → j < length slots → (getD slots j 0 < totalOf t) × (isUsed (t .occupied) (getD slots j 0) ≡ true)
   in-use j h =
       let p : ℕ → Bool = λ i. ltb i (totalOf t) && isUsed (t .occupied) i in
-      let w = both _ _ (passes p 0 slots (count-nowhere (λ i. not (p i)) (λ i. when (isUsed (t .occupied) i) i) (totalOf t) (λ i l.
-      count-when (λ i. not (p i)) (isUsed (t .occupied) i) i ∙ rw (lt-ltb i (totalOf t) l) (by (isUsed (t .occupied) i)))) j h) in
+      let w = both _ _ (passes p 0 slots (count-nowhere (λ i. not (p i)) (λ i. elementIf (isUsed (t .occupied) i) i) (totalOf t) (λ i l.
+      count-element (λ i. not (p i)) (isUsed (t .occupied) i) i ∙ rw (lt-ltb i (totalOf t) l) (by (isUsed (t .occupied) i)))) j h) in
       (ltb-true _ _ (w .0), w .1)
     where
       by : (b : Bool) → bit (b && not b) ≡ 0
@@ -108,7 +109,7 @@ module _ (t : Table) (k : Kept t) (names : (i : ℕ) → i < totalOf t → lengt
   free-clear-used : (i : ℕ) → i < totalOf t → isUsed (t .occupied) i ≡ true → callFreeClear (callAt t i) ≡ true
   free-clear-used i l u = rw u at (k .slots i l)
 
-  record-of : (j : ℕ) → j < callsIn s → callRecord s j ≡ record { slot = getD slots j 0; call = bare (callAt t (getD slots j 0)) }
+  record-of : (j : ℕ) → j < callsIn s → callRecord s j ≡ record { slot = getD slots j 0; call = withoutPlaces (callAt t (getD slots j 0)) }
   record-of j h =
       let l : j < length slots = omega (arith, as-many, calls-in) in
       let i = getD slots j 0 in
@@ -118,16 +119,16 @@ module _ (t : Table) (k : Kept t) (names : (i : ℕ) → i < totalOf t → lengt
       (split-between head (joined block slots) (joined connectionBytes (held t)) (block i) (55 * j) (joined-split block 55 0 slots blocks j l)) in
       call-back s (4 + 55 * j) i (callAt t i) (names i (u .0)) split (k .names i (u .0) (u .1)) (free-clear-used i (u .0) (u .1))
 
-  bare-names : (c : Call) → validIds c ≡ true → validIds (bare c) ≡ true
+  without-names : (c : Call) → validIds c ≡ true → validIds (withoutPlaces c) ≡ true
   unfolding validIds
-  bare-names c h = h
+  without-names c h = h
 
-  bare-free-clear : (c : Call) → callFreeClear c ≡ true → callFreeClear (bare c) ≡ true
+  without-free-clear : (c : Call) → callFreeClear c ≡ true → callFreeClear (withoutPlaces c) ≡ true
   unfolding callFreeClear everyBelow placeClear placeValid
-  bare-free-clear c h = rw (both (unusedClear c && zerosAt (c .name) (c .size) (32 - c .size)) _ h .0)
+  without-free-clear c h = rw (both (unusedClear c && zerosAt (c .name) (c .size) (32 - c .size)) _ h .0)
 
   -- what holds of each call that stands in a used slot holds of each record
-  by-record : (P : Slotted → Type 0) → ((i : ℕ) → i < totalOf t → isUsed (t .occupied) i ≡ true → P (record { slot = i; call = bare (callAt t i) }))
+  by-record : (P : Slotted → Type 0) → ((i : ℕ) → i < totalOf t → isUsed (t .occupied) i ≡ true → P (record { slot = i; call = withoutPlaces (callAt t i) }))
       → (j : ℕ) → j < callsIn s → P (callRecord s j)
   by-record P f j h =
       let u = in-use j (omega (arith, as-many, calls-in)) in
@@ -143,9 +144,10 @@ module _ (t : Table) (k : Kept t) (names : (i : ℕ) → i < totalOf t → lengt
   pub copied : Copied t s
   copied = record {
     slots = by-record (λ r. r .slot < totalOf t) (λ i l u. l);
-    names = by-record (λ r. validIds (r .call) ≡ true) (λ i l u. bare-names (callAt t i) (k .names i l u));
-    clear = by-record (λ r. callFreeClear (r .call) ≡ true) (λ i l u. bare-free-clear (callAt t i) (free-clear-used i l u));
-    all = λ p. ap (count p) entries-are;
+    names = by-record (λ r. validIds (r .call) ≡ true) (λ i l u. without-names (callAt t i) (k .names i l u));
+    clear = by-record (λ r. callFreeClear (r .call) ≡ true) (λ i l u. without-free-clear (callAt t i) (free-clear-used i l u));
+    call = by-record (λ r. r .call ≡ withoutPlaces (callAt t (r .slot))) (λ i l u. refl);
+    all = λ p. ap (countIf p) entries-are;
   }
 
   -- ---- the connection records

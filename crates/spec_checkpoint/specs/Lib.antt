@@ -2,3 +2,4 @@ pub mod Layout
 pub mod Salvage
 pub mod Restored
 pub mod Places
+pub mod Claims

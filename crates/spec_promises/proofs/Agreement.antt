@@ -1,28 +1,27 @@
 -- Each change keeps the agreement of table and ledger.
 -- Assumes nothing.
-use Prim.Native.Nat.{ℕ, zero, suc, _+_, _≤_, _<_}
+use Prim.Native.Nat.{ℕ, _+_, _≤_, _<_}
 use native.Mathlib.Omega.{arith}
 use mathlib.Core.Path.{_≡_, refl, sym, ap, _∙_}
 use mathlib.Core.List.{List, _∷_}
 use mathlib.Core.Bool.{Bool, true, false, _&&_}
-use lib.Dec.{eqb}
+use lib.Dec.{eqb, ltb}
 use lib.ListN.{length}
-use borrow.Author.Tests.{eqb-true, eqb-false}
-use Rattle.lists.specs.Count.{bit, count, has, without}
+use Rattle.lists.specs.Count.{bit, countIf, has, without}
 use Rattle.lists.proofs.Tests.{both}
-use Rattle.lists.proofs.Count.{true-has, false-has, count-le, count-split, count-without}
+use Rattle.lists.proofs.Search.{not-ext}
+use Rattle.lists.proofs.Count.{some-bit, count-le, without-same, count-gone}
 use Rattle.table.specs.Table.{Table}
 use Rattle.table.specs.Total.{totalOf}
-use Rattle.table.specs.Word.{lowestFree}
-use Rattle.table.specs.Lists.{roster, Ids, Entry, callAt, idsOf, entries, Held, held}
-use Rattle.table.specs.Rules.{rosterHolds, sameShort, sameLong, sameLsp, rulesHold}
-use Rattle.table.proofs.Slots.{lowest-most, lowest-below, lowest-here}
+use Rattle.table.specs.Word.{isUsed, lowestFree}
+use Rattle.table.specs.Lists.{roster, Ids, Entry, callAt, idsOf, entries, Lsp, Held, held}
+use Rattle.table.specs.Rules.{rosterHolds, sameShort, sameLong, isLsp, rulesHold}
 use Rattle.spec_changes.specs.Shape.{Shape}
 use Rattle.spec_changes.specs.Calls.{opened, isCall, slotOf, closed, identifierTaken}
-use Rattle.spec_changes.specs.Connections.{added, removed}
+use Rattle.spec_changes.specs.Connections.{added, removed, isUnder}
 use Rattle.spec_changes.proofs.Kept.{Kept, MayOpen, room-for}
 use Rattle.spec_changes.proofs.Told.{roster-kept, rules-kept, kept-rules}
-use Rattle.spec_changes.proofs.Opened.{slot-used, free-slot, opened-entries, opened-shape, opened-kept}
+use Rattle.spec_changes.proofs.Opened.{slot-used, free-slot, opened-entries, opened-held, opened-shape, opened-kept}
 use Rattle.spec_changes.proofs.Closed.{closed-slot, closed-entries, closed-shape, closed-kept}
 use Rattle.spec_changes.proofs.Added.{MayAdd, added-entries, added-shape, added-kept}
 use Rattle.spec_changes.proofs.Removed.{removed-entries, removed-shape, removed-kept}
@@ -34,26 +33,10 @@ use Rattle.spec_promises.specs.Promises.{Agrees}
 abbrev inSlot : ℕ → Entry → Bool
 inSlot j e = eqb j (e .slot)
 
-lowest-at : (l : List Entry) (n k m : ℕ) → k ≤ m → m ≤ n + k → ((j : ℕ) → j < m → has (inSlot j) l ≡ true) → (m < n + k → has (inSlot m) l ≡ false) → lowestSlot l n k ≡ m
-lowest-at l zero k m a b f g = omega arith
-lowest-at l (suc n) k m a b f g = by (eqb k m) refl (lowest-at l n (suc k) m)
-  where
-    by : (s : Bool) → eqb k m ≡ s
-        → (suc k ≤ m → m ≤ n + suc k → ((j : ℕ) → j < m → has (inSlot j) l ≡ true) → (m < n + suc k → has (inSlot m) l ≡ false) → lowestSlot l n (suc k) ≡ m)
-        → lowestSlot l (suc n) k ≡ m
-    by true e i = let q : k ≡ m = eqb-true k m e in rw (q, g (omega arith))
-    by false e i =
-        let q : k ≡ m → ⊥ = eqb-false k m e in
-        rw (f k (omega arith)) (i (omega arith) (omega arith) f (λ h. g (omega arith)))
-
-lowest-is : (t : Table) (l : List Entry) → Shape t → ((p : Entry → Bool) → count p (entries t) ≡ count p l) → lowestSlot l (totalOf t) 0 ≡ lowestFree (t .occupied)
-lowest-is t l s h =
-    let w = t .occupied in
-    lowest-at l (totalOf t) 0 (lowestFree w) (omega arith) (lowest-most w)
-    (λ j a. true-has (inSlot j) l
-    (omega (arith, h (inSlot j), slot-used t j (omega (arith, lowest-most w)) ∙ ap bit (lowest-below w (s .word) j a))))
-    (λ a. false-has (inSlot (lowestFree w)) l
-    (sym (h (inSlot (lowestFree w))) ∙ slot-used t (lowestFree w) a ∙ ap bit (lowest-here w (s .word) a)))
+lowest-is : (t : Table) (l : List Entry) → ((p : Entry → Bool) → countIf p (entries t) ≡ countIf p l) → lowestSlot l (totalOf t) ≡ lowestFree (t .occupied)
+lowest-is t l h =
+    not-ext (λ j. has (inSlot j) l) (isUsed (t .occupied)) (totalOf t) 0
+    (λ j a. ap (ltb 0) (sym (h (inSlot j)) ∙ slot-used t j (omega arith)) ∙ some-bit (isUsed (t .occupied) j))
 
 -- ---- the next own identifier is nobody's concern
 
@@ -78,46 +61,35 @@ module _ (t : Table) (l : List Entry) (g : Agrees t l) where
 
   -- ---- opening and closing
 
+  -- what may be opened finds a free slot
+  free : (c : Ids) → MayOpen (totalOf t) (roster t) (entries t) c → lowestFree (t .occupied) < totalOf t
+  free c m = free-slot t (room-for (totalOf t) (roster t) (entries t) c (kept .calls) m)
+
   pub open-agrees : (c : Ids) → MayOpen (totalOf t) (roster t) (entries t) c → 0 < c .short → c .short < 0x10000 → 0 < length (c .long) → length (c .long) ≤ 32
-      → Agrees (opened t c) (record { slot = lowestSlot l (totalOf t) 0; ids = c } ∷ l)
+      → Agrees (opened t c) (record { slot = lowestSlot l (totalOf t); ids = c } ∷ l)
   open-agrees c m short fits some most = record {
-    shape = opened-shape t c (g .shape) free;
+    shape = opened-shape t c (g .shape) (free c m);
     rules = kept-rules (opened t c) (opened-kept t c (g .shape) kept m (roster-kept t (kept .accepted) .apart) short fits some most);
-    calls = λ p. opened-entries t c (g .shape) free p ∙ rw (lowest-is t l (g .shape) (g .calls), g .calls p);
+    calls = λ p. opened-entries t c (g .shape) (free c m) p ∙ rw (lowest-is t l (g .calls), g .calls p);
   }
-    where
-      free : lowestFree (t .occupied) < totalOf t
-      free = free-slot t (g .shape .word) (room-for (totalOf t) (roster t) (entries t) c (kept .calls) m)
 
-  pub close-agrees : (c : Ids) → 0 < count (isCall c) (entries t) → Agrees (closed t c) (without (isCall c) l)
-  close-agrees c h = record {
+  pub open-held : (c : Ids) → MayOpen (totalOf t) (roster t) (entries t) c → (p : Held → Bool) → countIf p (held (opened t c)) ≡ countIf p (held t)
+  open-held c m p = opened-held t c (g .shape) (free c m) p
+
+  pub close-agrees : (c : Ids) → 0 < countIf (isCall c) (entries t) → countIf (isUnder c) (held t) ≡ 0 → Agrees (closed t c) (without (isCall c) l)
+  close-agrees c h idle = record {
     shape = closed-shape t c (g .shape) h;
-    rules = kept-rules (closed t c) (closed-kept t c (g .shape) h kept);
-    calls = calls;
+    rules = kept-rules (closed t c) (closed-kept t c (g .shape) h idle kept);
+    calls = λ p. gone p ∙ without-same (isCall c) (entries t) l (g .calls) p;
   }
     where
-      gone : Entry
-      gone = record { slot = slotOf t (isCall c); ids = idsOf (callAt t (slotOf t (isCall c))) }
+      once : countIf (isCall c) (entries t) ≤ 1
+      once = omega (arith, count-le (isCall c) (λ e. sameShort c (e .ids)) (entries t) (call-short c), kept .calls .shorts c)
 
-      less : (p : Entry → Bool) → count p (entries t) ≡ bit (p gone) + count p (entries (closed t c))
-      less p = closed-entries t c (g .shape) h p
-
-      calls : (p : Entry → Bool) → count p (entries (closed t c)) ≡ count p (without (isCall c) l)
-      calls p =
-          let here = closed-slot t c (g .shape) h .2 in
-          omega (
-            arith,
-            less p,
-            less (λ e. isCall c e && p e) ∙ ap (λ b. bit (b && p gone) + count (λ e. isCall c e && p e) (entries (closed t c))) here,
-            less (isCall c) ∙ ap (λ b. bit b + count (isCall c) (entries (closed t c))) here,
-            count-le (λ e. isCall c e && p e) (isCall c) (entries (closed t c)) (λ e q. both (isCall c e) (p e) q .0),
-            count-le (isCall c) (λ e. sameShort c (e .ids)) (entries t) (call-short c),
-            kept .calls .shorts c,
-            g .calls p,
-            g .calls (λ e. isCall c e && p e),
-            count-without p (isCall c) l,
-            count-split p (isCall c) l,
-          )
+      gone : (p : Entry → Bool) → countIf p (entries (closed t c)) ≡ countIf p (without (isCall c) (entries t))
+      gone =
+          count-gone (isCall c) (entries t) (entries (closed t c)) (record { slot = slotOf t (isCall c); ids = idsOf (callAt t (slotOf t (isCall c))) })
+          (closed-slot t c (g .shape) h .2) once (closed-entries t c (g .shape) h)
 
   -- ---- connections come and go
 
@@ -128,7 +100,7 @@ module _ (t : Table) (l : List Entry) (g : Agrees t l) where
     calls = λ p. added-entries t x (g .shape) m p ∙ g .calls p;
   }
 
-  pub remove-agrees : (x : Held) → 0 < count (sameLsp x) (held t) → Agrees (removed t x) l
+  pub remove-agrees : (x : Lsp) → 0 < countIf (isLsp x) (held t) → Agrees (removed t x) l
   remove-agrees x h = record {
     shape = removed-shape t x (g .shape) h;
     rules = kept-rules (removed t x) (removed-kept t x (g .shape) h kept);

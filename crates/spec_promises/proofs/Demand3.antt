@@ -10,35 +10,38 @@ use lib.Dec.{eqb}
 use lib.ListN.{length}
 use borrow.Author.Tests.{eqb-true, eqb-false}
 use Rattle.numbers.specs.BigEndian.{Bytes}
-use Rattle.lists.specs.Count.{bit, count, without}
+use Rattle.lists.specs.Count.{bit, countIf, without}
 use Rattle.lists.proofs.Tests.{both}
-use Rattle.lists.proofs.Count.{count-le, count-split, count-without, count-share}
+use Rattle.lists.proofs.Count.{count-le, count-split, count-without, count-share, without-same}
 use Rattle.messages.specs.declared.message.CallRequest.{CallRequest}
 use Rattle.messages.specs.declared.message.Message.the-variants.{Open, Close, Add, Drop}
 use Rattle.table.specs.declared.answer.RosterAnswer.{RosterAnswer}
-use Rattle.table.specs.declared.answer.RosterAnswer.the-variants.{Accepted, Short, Form, Length, SpareBits, Share, Repeated, Guarantees}
+use Rattle.table.specs.declared.answer.RosterAnswer.the-variants.{Accepted, Short, BadForm, Length, SpareBits, Share, Repeated, Guarantees}
 use Rattle.table.specs.Table.{Table}
 use Rattle.table.specs.Total.{total, totalOf}
-use Rattle.table.specs.Lists.{Terms, roster, Ids, Entry, entries, held}
-use Rattle.table.specs.Share.{listed, limitOf, from, callsOf}
-use Rattle.table.specs.Rules.{samePair, sameShort, sameLong}
+use Rattle.table.specs.Lists.{Terms, roster, Ids, Entry, entries, Held, held}
+use Rattle.table.specs.Share.{isListed, limitOf, from, callsOf}
+use Rattle.table.specs.Rules.{samePair, sameShort, sameLong, isLsp}
 use Rattle.table.specs.Roster.{rosterNumber, customersIn, recordsIn, rosterAnswer, freshTable, tableFor}
-use Rattle.table.proofs.Fresh.{fresh-holds, fresh-roster, fresh-entries}
+use Rattle.table.proofs.Fresh.{fresh-holds, fresh-roster, fresh-entries, fresh-held}
 use Rattle.spec_changes.specs.Calls.{isCall}
 use Rattle.spec_changes.proofs.Told.{roster-kept, guarantee-within, rules-kept}
 use Rattle.spec_changes.proofs.Fresh.{fresh-shape}
 use Rattle.answers.specs.declared.answer.Answer.{Answer}
 use Rattle.answers.specs.Answers.{answerNumber, is}
-use Rattle.spec_calls.specs.Form.{Form as Formed, faulty, sound, formOf}
+use Rattle.spec_calls.specs.Form.{Form, faulty, sound, formOf}
 use Rattle.spec_calls.specs.CallRules.{idsIn, isOpen, shortInUse, longInUse}
-use Rattle.spec_calls.specs.PathRules.{heldBy}
+use Rattle.spec_calls.specs.PathRules.{lspOf, heldBy}
 use Rattle.spec_calls.specs.Handling.{formAnswer, answerFrom2}
 use Rattle.spec_promises.specs.Ledger.{Fed, fourOf, lowestSlot, feed, ledger, answered}
+use Rattle.spec_promises.specs.Connections.{heldOf, feedHeld, connectionsAfter}
 use Rattle.spec_promises.specs.Promises.{Input, fed, tableThen, AtEveryStep, dueAnswer, Promised, Agrees}
+use Rattle.spec_promises.specs.Claims.{Demand3, Demand3From, AgreesThroughout, AgreesFrom, ConnectionsThroughout, ConnectionsFrom}
 use Rattle.spec_calls.proofs.Decided.{open-never, open-same, close-never, add-never, drop-never}
 use Rattle.spec_promises.proofs.Due.{open-due}
 use Rattle.spec_promises.proofs.Formed.{Says, form-says}
-use Rattle.spec_promises.proofs.Step.{answer-is, step-agrees, step-roster, step-closes}
+use Rattle.spec_promises.proofs.Step.{answer-is, step-agrees, step-roster, step-closes, step-held}
+use Rattle.spec_promises.proofs.Named.{retry-is-21, setup-cause}
 
 -- ---- opened is count and closed
 
@@ -50,12 +53,12 @@ call-sender c e h =
     eqb-true _ _ (both (eqb (c .endpoint) (e .ids .endpoint)) (eqb (c .sender) (e .ids .sender)) (m .0) .1)
 
 -- a call that stands once is one less when taken out
-one-less : (a : ℕ) (l : List Entry) (c : Ids) → 0 < count (isCall c) l → count (λ e. sameShort c (e .ids)) l ≤ 1
+one-less : (a : ℕ) (l : List Entry) (c : Ids) → 0 < countIf (isCall c) l → countIf (λ e. sameShort c (e .ids)) l ≤ 1
     → callsOf l a ≡ callsOf (without (isCall c) l) a + bit (eqb (c .sender) a)
 one-less a l c h once =
     by (eqb (c .sender) a) (count-share (from a) (isCall c) (eqb (c .sender) a) l (λ e q. ap (λ n. eqb n a) (sym (call-sender c e q))))
   where
-    by : (b : Bool) → count (λ e. isCall c e && from a e) l ≡ cond b (count (isCall c) l) 0 → callsOf l a ≡ callsOf (without (isCall c) l) a + bit b
+    by : (b : Bool) → countIf (λ e. isCall c e && from a e) l ≡ cond b (countIf (isCall c) l) 0 → callsOf l a ≡ callsOf (without (isCall c) l) a + bit b
     by true p =
         omega (
           arith,
@@ -65,8 +68,8 @@ one-less a l c h once =
         )
     by false p = omega (arith, count-split (from a) (isCall c) l, count-without (from a) (isCall c) l)
 
-sums-by : (a : ℕ) (l : List Entry) (slot : ℕ) (c : Ids) (b d : Bool) (o k : ℕ) → (b ≡ true → d ≡ false) → (d ≡ true → 0 < count (isCall c) l)
-    → count (λ e. sameShort c (e .ids)) l ≤ 1 → o ≡ callsOf l a + k
+sums-by : (a : ℕ) (l : List Entry) (slot : ℕ) (c : Ids) (b d : Bool) (o k : ℕ) → (b ≡ true → d ≡ false) → (d ≡ true → 0 < countIf (isCall c) l)
+    → countIf (λ e. sameShort c (e .ids)) l ≤ 1 → o ≡ callsOf l a + k
     → bit (b && eqb (c .sender) a) + o
     ≡ callsOf (cond b (record { slot = slot; ids = c } ∷ l) (cond d (without (isCall c) l) l)) a + (bit (d && eqb (c .sender) a) + k)
 sums-by a l slot c true d o k n m u h = rw (n refl) (omega arith)
@@ -78,12 +81,12 @@ not-both : (a : Answer) → is 20 a ≡ true → is 22 a ≡ false
 not-both a h = rw (eqb-true (answerNumber a) 20 h)
 
 module _ (t : Table) (l : List Entry) (g : Agrees t l) where
-  form-never-1 : (s : List ℕ) (f : Formed) → Says (roster t) s f → is 1 (formAnswer t s f) ≡ false
+  form-never-1 : (s : List ℕ) (f : Form) → Says (roster t) s f → is 1 (formAnswer t s f) ≡ false
   form-never-1 s (faulty a) i = i .not1
   form-never-1 s (sound (Open q)) i = open-never (totalOf t) (roster t) (entries t) (idsIn s q) 1 refl refl refl refl refl
   form-never-1 s (sound (Close q)) i = close-never (entries t) (held t) (idsIn s q) 1 refl refl refl
   form-never-1 s (sound (Add c)) i = add-never (entries t) (held t) (heldBy c) 1 refl refl refl refl refl
-  form-never-1 s (sound (Drop c)) i = drop-never (entries t) (held t) (heldBy c) 1 refl refl
+  form-never-1 s (sound (Drop c)) i = drop-never (held t) (lspOf (c .lsp)) 1 refl refl
 
   -- ---- what the ledger promises of one message
 
@@ -100,12 +103,12 @@ module _ (t : Table) (l : List Entry) (g : Agrees t l) where
         → bit (is 20 (fed t x .answer) && eqb (fourOf (x .message) .sender) a) + o
         ≡ callsOf (feed (totalOf t) (fed t x) l) a + (bit (is 22 (fed t x .answer) && eqb (fourOf (x .message) .sender) a) + k)
     counted a o k e =
-        sums-by a l (lowestSlot l (totalOf t) 0) (fourOf (x .message)) (is 20 (fed t x .answer)) (is 22 (fed t x .answer)) o k
+        sums-by a l (lowestSlot l (totalOf t)) (fourOf (x .message)) (is 20 (fed t x .answer)) (is 22 (fed t x .answer)) o k
         (not-both (fed t x .answer))
         (λ q. step-closes t l g x q .0)
         (rw (← (g .calls (λ e. sameShort (fourOf (x .message)) (e .ids)))) (rules-kept t (g .rules) .calls .shorts (fourOf (x .message)))) e
 
-    limited : (a : ℕ) → listed (roster t) a ≡ true → callsOf (feed (totalOf t) (fed t x) l) a ≤ limitOf (roster t) a
+    limited : (a : ℕ) → isListed (roster t) a ≡ true → callsOf (feed (totalOf t) (fed t x) l) a ≤ limitOf (roster t) a
     limited a known =
         let n = step-agrees t l g x in
         rw (← (n .calls (from a)), ← (step-roster t l g x)) (rules-kept (tableThen t x) (n .rules) .calls .limits a (rw (step-roster t l g x) known))
@@ -136,38 +139,63 @@ step-promised t start h g x u = record {
   counted = step-counted t start h g x u;
   limited = limited t (ledger total start h) g x;
   due = due t (ledger total start h) g x;
+  retried = λ q e known. retry-is-21 t (ledger total start h) g x q e known .0;
+  caused = setup-cause t (ledger total start h) g x;
 }
 
--- what holds at every point of a run
-record Running (r : List Terms) (start : List Entry) (t : Table) (h : List Fed) : Type 0 where
+-- what holds at every point of a run that began with these entries and these connections
+record Running (r : List Terms) (start : List Entry) (lit : List Held) (t : Table) (h : List Fed) : Type 0 where
   pub roster : roster t ≡ r
   pub agrees : Agrees t (ledger total start h)
   pub counted : Counted start h
+  pub connections : (p : Held → Bool) → countIf p (held t) ≡ countIf p (connectionsAfter lit h)
 
-running-on : (r : List Terms) (start : List Entry) (t : Table) (h : List Fed) (x : Input) → Running r start t h → Running r start (tableThen t x) (fed t x ∷ h)
-running-on r start t h x i = record {
-  roster = step-roster t (ledger total start h) (i .agrees) x ∙ i .roster;
-  agrees = step-agrees t (ledger total start h) (i .agrees) x;
-  counted = step-counted t start h (i .agrees) x (i .counted);
-}
+-- lists of connections that count alike do so after the next message
+feed-same : (e : Fed) (k l : List Held) → ((p : Held → Bool) → countIf p k ≡ countIf p l) → (p : Held → Bool) → countIf p (feedHeld e k) ≡ countIf p (feedHeld e l)
+feed-same e k l h p = by (is 23 (e .answer)) (is 25 (e .answer))
+  where
+    by : (b d : Bool)
+        → countIf p (cond b (heldOf (e .message) ∷ k) (cond d (without (isLsp (heldOf (e .message) .lsp)) k) k))
+        ≡ countIf p (cond b (heldOf (e .message) ∷ l) (cond d (without (isLsp (heldOf (e .message) .lsp)) l) l))
+    by true d = ap (λ n. bit (p (heldOf (e .message))) + n) (h p)
+    by false true = without-same (isLsp (heldOf (e .message) .lsp)) k l h p
+    by false false = h p
 
--- what follows from that at one step holds at every step
-at-every-step : (P : Table → List Fed → Input → Type 0) (r : List Terms) (start : List Entry) → ((t : Table) (h : List Fed) (x : Input) → Running r start t h → P t h x)
-    → (xs : List Input) (t : Table) (h : List Fed) → Running r start t h → AtEveryStep P t h xs
-at-every-step P r start f [] t h i = tt
-at-every-step P r start f (x ∷ xs) t h i = (f t h x i, at-every-step P r start f xs (tableThen t x) (fed t x ∷ h) (running-on r start t h x i))
+module _ (r : List Terms) (start : List Entry) (lit : List Held) where
+  running-on : (t : Table) (h : List Fed) (x : Input) → Running r start lit t h → Running r start lit (tableThen t x) (fed t x ∷ h)
+  running-on t h x i = record {
+    roster = step-roster t (ledger total start h) (i .agrees) x ∙ i .roster;
+    agrees = step-agrees t (ledger total start h) (i .agrees) x;
+    counted = step-counted t start h (i .agrees) x (i .counted);
+    connections = λ p. step-held t (ledger total start h) (i .agrees) x p ∙ feed-same (fed t x) (held t) (connectionsAfter lit h) (i .connections) p;
+  }
 
-promised : (r : List Terms) (start : List Entry) (t : Table) (h : List Fed) (x : Input) → Running r start t h → Promised total r start t h x
-promised r start t h x i = subst (λ r. Promised total r start t h x) (i .roster) (step-promised t start h (i .agrees) x (i .counted))
+  -- what follows from that at one step holds at every step
+  at-every-step : (P : Table → List Fed → Input → Type 0) → ((t : Table) (h : List Fed) (x : Input) → Running r start lit t h → P t h x)
+      → (xs : List Input) (t : Table) (h : List Fed) → Running r start lit t h → AtEveryStep P t h xs
+  at-every-step P f [] t h i = tt
+  at-every-step P f (x ∷ xs) t h i = (f t h x i, at-every-step P f xs (tableThen t x) (fed t x ∷ h) (running-on t h x i))
 
-from-start : (t : Table) (start : List Entry) → Agrees t start → Running (roster t) start t []
-from-start t start g = record { roster = refl; agrees = g; counted = λ a. refl }
+  promised : (t : Table) (h : List Fed) (x : Input) → Running r start lit t h → Promised total r start t h x
+  promised t h x i = subst (λ r. Promised total r start t h x) (i .roster) (step-promised t start h (i .agrees) x (i .counted))
 
--- from any table that agrees with a ledger's entries at the start
-pub demand3-from : (t : Table) (start : List Entry) → Agrees t start → (xs : List Input) → AtEveryStep (Promised (totalOf t) (roster t) start) t [] xs
-demand3-from t start g xs = at-every-step _ (roster t) start (promised (roster t) start) xs t [] (from-start t start g)
+-- ---- from any table that agrees with a ledger's entries at the start
 
--- the fresh table agrees with the ledger that has no entries
+module _ (t : Table) (start : List Entry) (g : Agrees t start) (xs : List Input) where
+  from-start : (P : Table → List Fed → Input → Type 0) → ((u : Table) (h : List Fed) (x : Input) → Running (roster t) start (held t) u h → P u h x) → AtEveryStep P t [] xs
+  from-start P f = at-every-step (roster t) start (held t) P f xs t [] (record { roster = refl; agrees = g; counted = λ a. refl; connections = λ p. refl })
+
+pub demand3-from : Demand3From
+demand3-from t start g xs = from-start t start g xs _ (promised (roster t) start (held t))
+
+pub agrees-from : AgreesFrom
+agrees-from t start g xs = from-start t start g xs _ (λ u h x i. i .agrees)
+
+pub connections-from : ConnectionsFrom
+connections-from t start g xs = from-start t start g xs _ (λ u h x i. i .connections)
+
+-- ---- from the table of an accepted roster, which has no calls and no connections
+
 fresh-agrees : (s : List ℕ) → Bytes s → rosterAnswer s ≡ Accepted → Agrees (freshTable s) []
 fresh-agrees s bytes e = record { shape = fresh-shape s; rules = fresh-holds s bytes e; calls = λ p. rw (fresh-entries s) }
 
@@ -175,7 +203,7 @@ fresh-agrees s bytes e = record { shape = fresh-shape s; rules = fresh-holds s b
 pub accepted : (a : RosterAnswer) → rosterNumber a ≡ 0 → a ≡ Accepted
 accepted Accepted e = refl
 accepted Short e = let z : ⊥ = omega arith in absurd z
-accepted Form e = let z : ⊥ = omega arith in absurd z
+accepted BadForm e = let z : ⊥ = omega arith in absurd z
 accepted Length e = let z : ⊥ = omega arith in absurd z
 accepted SpareBits e = let z : ⊥ = omega arith in absurd z
 accepted Share e = let z : ⊥ = omega arith in absurd z
@@ -190,14 +218,19 @@ table-roster : (s : List ℕ) → rosterNumber (rosterAnswer s) ≡ 0 → roster
 unfolding tableFor
 table-roster s e = let a = accepted (rosterAnswer s) e in rw a (fresh-roster s a)
 
--- from the table of every byte string that the roster reader answers 0, over every list of messages and reply buffers
-pub demand3 : (s : List ℕ) → Bytes s → rosterNumber (rosterAnswer s) ≡ 0 → (xs : List Input)
-    → AtEveryStep (Promised total (recordsIn s (customersIn s)) []) (tableFor (rosterAnswer s) s) [] xs
+table-held : (s : List ℕ) → rosterNumber (rosterAnswer s) ≡ 0 → held (tableFor (rosterAnswer s) s) ≡ []
+unfolding tableFor
+table-held s e = let a = accepted (rosterAnswer s) e in rw a (fresh-held s)
+
+pub demand3 : Demand3
 demand3 s bytes e xs = rw (← (table-roster s e)) (demand3-from (tableFor (rosterAnswer s) s) [] (table-agrees s bytes e) xs)
 
--- what holds of a table that agrees with a ledger (Named.antt) holds all along such a run
-pub agrees-throughout : (s : List ℕ) → Bytes s → rosterNumber (rosterAnswer s) ≡ 0 → (xs : List Input)
-    → AtEveryStep (λ t h x. Agrees t (ledger total [] h)) (tableFor (rosterAnswer s) s) [] xs
-agrees-throughout s bytes e xs =
+-- what holds of a table that agrees with a ledger holds all along such a run
+pub agrees-throughout : AgreesThroughout
+agrees-throughout s bytes e xs = agrees-from (tableFor (rosterAnswer s) s) [] (table-agrees s bytes e) xs
+
+pub connections-throughout : ConnectionsThroughout
+connections-throughout s bytes e xs =
     let t = tableFor (rosterAnswer s) s in
-    at-every-step _ (roster t) [] (λ t h x i. i .agrees) xs t [] (from-start t [] (table-agrees s bytes e))
+    subst (λ lit. AtEveryStep (λ u h x. (p : Held → Bool) → countIf p (held u) ≡ countIf p (connectionsAfter lit h)) t [] xs) (table-held s e)
+    (connections-from t [] (table-agrees s bytes e) xs)

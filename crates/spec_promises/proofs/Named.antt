@@ -1,4 +1,5 @@
--- What a customer asks for by name: retries, refusals, the table rules, and calls with connections.
+-- What a customer asks for by name: retries, refusals, the table rules, and calls with connections. The statements are
+-- those of specs/Claims.antt.
 -- Assumes nothing.
 use Prim.Native.Nat.{ℕ, _<_}
 use native.Mathlib.Omega.{arith}
@@ -8,7 +9,7 @@ use mathlib.Core.Bool.{Bool, true, false, cond, _&&_}
 use lib.Dec.{eqb}
 use lib.ListN.{length}
 use borrow.Author.Tests.{eqb-true}
-use Rattle.lists.specs.Count.{count, has, without}
+use Rattle.lists.specs.Count.{countIf, has, without}
 use Rattle.lists.proofs.Tests.{both}
 use Rattle.lists.proofs.Count.{has-true, has-false, true-has, has-nothing, count-ext, count-split, count-without}
 use Rattle.messages.specs.declared.message.CallRequest.{CallRequest}
@@ -16,21 +17,24 @@ use Rattle.messages.specs.declared.message.Message.the-variants.{Open, Close, A
 use Rattle.table.specs.Table.{Table}
 use Rattle.table.specs.Total.{totalOf}
 use Rattle.table.specs.Lists.{roster, Ids, Entry, entries, Held, held}
-use Rattle.table.specs.Rules.{samePair, sameShort, sameLong, rulesHold}
+use Rattle.table.specs.Rules.{samePair, sameShort, sameLong}
 use Rattle.spec_changes.specs.Calls.{opened, isCall, closed, identifierTaken}
-use Rattle.spec_changes.specs.Connections.{added, removed, callMissing, isUnder}
-use Rattle.spec_changes.proofs.CallMissing.{no-call-missing}
+use Rattle.spec_changes.specs.Connections.{added, removed, isUnder}
 use Rattle.answers.specs.declared.answer.Answer.{Answer}
+use Rattle.answers.specs.declared.answer.Answer.the-variants.{TableBroken, BufferTooSmall, Malformed, SenderNotListed, UnderOtherCall, NotHeld, CallOpened, CallAlreadyOpen, CallClosed, ConnectionAdded, ConnectionAlreadyHeld, ConnectionRemoved, CallIdContention, DuplicateCall, ConnectionsStillExist, UnknownCall, NoShare, PathUnknownCall, NoPlaceLeft}
 use Rattle.answers.specs.Answers.{answerNumber, is, sendsNotify}
 use Rattle.spec_calls.specs.Form.{Form, faulty, sound, formOf}
 use Rattle.spec_calls.specs.CallRules.{idsIn, isOpen}
-use Rattle.spec_calls.specs.PathRules.{heldBy}
+use Rattle.spec_calls.specs.PathRules.{lspOf, heldBy}
 use Rattle.spec_calls.specs.Handling.{formTable, tableAfter}
 use Rattle.spec_promises.specs.Ledger.{fourOf, lowestSlot}
-use Rattle.spec_promises.specs.Promises.{Input, fed, tableThen, Agrees, Unchanged, Cause}
+use Rattle.spec_promises.specs.Promises.{fed, tableThen, Unchanged}
+use Rattle.spec_promises.specs.Claims.{RulesAfter, BusyCallStays, RetryIs21, SetupCause, RefusedUnchanged, QuietUnchanged}
 use Rattle.spec_calls.proofs.Decided.{open-again, open-same}
 use Rattle.spec_promises.proofs.Due.{open-cause}
+use Rattle.spec_promises.proofs.Formed.{numbered, fault-never}
 use Rattle.spec_promises.proofs.Step.{answer-is, step-agrees, step-closes}
+use Rattle.spec_promises.proofs.Connections.{connection-stays}
 
 -- ---- a refused message leaves calls and connections as they were
 
@@ -49,20 +53,53 @@ form-unchanged t s (faulty _) a e20 e22 e23 e25 = as-it-was t
 form-unchanged t s (sound (Open q)) a e20 e22 e23 e25 = no-change t (opened t (idsIn s q)) (is 20 a) (sendsNotify a) e20
 form-unchanged t s (sound (Close q)) a e20 e22 e23 e25 = no-change t (closed t (idsIn s q)) (is 22 a) (sendsNotify a) e22
 form-unchanged t s (sound (Add c)) a e20 e22 e23 e25 = no-change t (added t (heldBy c)) (is 23 a) (sendsNotify a) e23
-form-unchanged t s (sound (Drop c)) a e20 e22 e23 e25 = no-change t (removed t (heldBy c)) (is 25 a) (sendsNotify a) e25
+form-unchanged t s (sound (Drop c)) a e20 e22 e23 e25 = no-change t (removed t (lspOf (c .lsp))) (is 25 a) (sendsNotify a) e25
 
--- any table, any message: only 20, 22, 23 and 25 change calls or connections
-pub refused-unchanged : (t : Table) (x : Input)
-    → is 20 (fed t x .answer) ≡ false → is 22 (fed t x .answer) ≡ false → is 23 (fed t x .answer) ≡ false → is 25 (fed t x .answer) ≡ false
-    → Unchanged t (tableThen t x)
+pub refused-unchanged : RefusedUnchanged
 unfolding tableAfter
 refused-unchanged t x =
     form-unchanged t (x .message) (formOf (roster t) (x .message) (length (x .buffer))) (fed t x .answer)
 
+-- 20 and 22 send a Notify
+notified : (a : Answer) → sendsNotify a ≡ false → (is 20 a ≡ false) × (is 22 a ≡ false)
+notified TableBroken e = (refl, refl)
+notified BufferTooSmall e = (refl, refl)
+notified (Malformed f) e = (fault-never (Malformed f) (numbered f) 20 (omega arith), fault-never (Malformed f) (numbered f) 22 (omega arith))
+notified SenderNotListed e = (refl, refl)
+notified UnderOtherCall e = (refl, refl)
+notified NotHeld e = (refl, refl)
+notified CallOpened e = (e, refl)
+notified CallAlreadyOpen e = (refl, refl)
+notified CallClosed e = (refl, e)
+notified ConnectionAdded e = (refl, refl)
+notified ConnectionAlreadyHeld e = (refl, refl)
+notified ConnectionRemoved e = (refl, refl)
+notified CallIdContention e = (refl, refl)
+notified DuplicateCall e = (refl, refl)
+notified ConnectionsStillExist e = (refl, refl)
+notified UnknownCall e = (refl, refl)
+notified NoShare e = (refl, refl)
+notified PathUnknownCall e = (refl, refl)
+notified NoPlaceLeft e = (refl, refl)
+
+as-before : (t u : Table) (b n : Bool) → b ≡ false → n ≡ false → cond n (identifierTaken (cond b u t)) (cond b u t) ≡ t
+as-before t u b n e f = rw (e, f)
+
+form-quiet : (t : Table) (s : List ℕ) (f : Form) (a : Answer) → sendsNotify a ≡ false → is 23 a ≡ false → is 25 a ≡ false → formTable t s f a ≡ t
+form-quiet t s (faulty _) a n e23 e25 = refl
+form-quiet t s (sound (Open q)) a n e23 e25 = as-before t (opened t (idsIn s q)) (is 20 a) (sendsNotify a) (notified a n .0) n
+form-quiet t s (sound (Close q)) a n e23 e25 = as-before t (closed t (idsIn s q)) (is 22 a) (sendsNotify a) (notified a n .1) n
+form-quiet t s (sound (Add c)) a n e23 e25 = as-before t (added t (heldBy c)) (is 23 a) (sendsNotify a) e23 n
+form-quiet t s (sound (Drop c)) a n e23 e25 = as-before t (removed t (lspOf (c .lsp))) (is 25 a) (sendsNotify a) e25 n
+
+pub quiet-unchanged : QuietUnchanged
+unfolding tableAfter
+quiet-unchanged t x =
+    form-quiet t (x .message) (formOf (roster t) (x .message) (length (x .buffer))) (fed t x .answer)
+
 -- ---- a retry finds the call it opened
 
-pub retry-is-21 : (t : Table) (l : List Entry) → Agrees t l → (x : Input) (q : CallRequest) → formOf (roster t) (x .message) (length (x .buffer)) ≡ sound (Open q)
-    → isOpen l (idsIn (x .message) q) ≡ true → (answerNumber (fed t x .answer) ≡ 21) × Unchanged t (tableThen t x)
+pub retry-is-21 : RetryIs21
 retry-is-21 t l g x q e known = (number, refused-unchanged t x (other 20 refl) (other 22 refl) (other 23 refl) (other 25 refl))
   where
     number : answerNumber (fed t x .answer) ≡ 21
@@ -78,21 +115,15 @@ retry-is-21 t l g x q e known = (number, refused-unchanged t x (other 20 refl) (
 
 -- ---- a setup that is refused had to be
 
-pub setup-cause : (t : Table) (l : List Entry) → Agrees t l → (x : Input) (q : CallRequest) → formOf (roster t) (x .message) (length (x .buffer)) ≡ sound (Open q)
-    → Cause (totalOf t) (roster t) l (idsIn (x .message) q) (answerNumber (fed t x .answer))
+pub setup-cause : SetupCause
 setup-cause t l g x q e =
     rw (answer-is t (x .message) (length (x .buffer)) (g .rules), e, open-same (totalOf t) (roster t) (entries t) l (idsIn (x .message) q) (g .calls))
     (open-cause (totalOf t) (roster t) l (idsIn (x .message) q))
 
 -- ---- the rules hold after every message
 
-pub rules-after : (t : Table) (l : List Entry) → Agrees t l → (x : Input) → rulesHold (tableThen t x) ≡ true
+pub rules-after : RulesAfter
 rules-after t l g x = step-agrees t l g x .rules
-
--- ---- a connection with a nonzero Call ID belongs to an open call: no table has one that does not
-
-pub connection-has-call : (t : Table) → has (callMissing (entries t)) (held t) ≡ false
-connection-has-call t = no-call-missing t
 
 -- ---- a call with connections stays
 
@@ -114,7 +145,7 @@ same-under c d e p q x =
     )
 
 -- a call with connections is none of the calls that an entry of a call without any could be
-apart-from : (h : List Held) (c d : Ids) → has (isUnder c) h ≡ true → count (isUnder d) h ≡ 0 → (e : Entry) → (isCall d e && isCall c e) ≡ false
+apart-from : (h : List Held) (c d : Ids) → has (isUnder c) h ≡ true → countIf (isUnder d) h ≡ 0 → (e : Entry) → (isCall d e && isCall c e) ≡ false
 apart-from h c d busy idle e = by (isCall d e) (isCall c e) refl refl
   where
     by : (a b : Bool) → isCall d e ≡ a → isCall c e ≡ b → (a && b) ≡ false
@@ -126,8 +157,8 @@ apart-from h c d busy idle e = by (isCall d e) (isCall c e) refl refl
     by true false p q = refl
     by false b p q = refl
 
-stays : (l : List Entry) (slot : ℕ) (c d : Ids) (b k : Bool) → (k ≡ true → (e : Entry) → (isCall d e && isCall c e) ≡ false) → 0 < count (isCall c) l
-    → 0 < count (isCall c) (cond b (record { slot = slot; ids = d } ∷ l) (cond k (without (isCall d) l) l))
+stays : (l : List Entry) (slot : ℕ) (c d : Ids) (b k : Bool) → (k ≡ true → (e : Entry) → (isCall d e && isCall c e) ≡ false) → 0 < countIf (isCall c) l
+    → 0 < countIf (isCall c) (cond b (record { slot = slot; ids = d } ∷ l) (cond k (without (isCall d) l) l))
 stays l slot c d true k apart h = omega arith
 stays l slot c d false true apart h =
     omega (
@@ -138,11 +169,13 @@ stays l slot c d false true apart h =
     )
 stays l slot c d false false apart h = h
 
-pub busy-call-stays : (t : Table) (l : List Entry) → Agrees t l → (x : Input) (c : Ids) → isOpen (entries t) c ≡ true → has (isUnder c) (held t) ≡ true
-    → isOpen (entries (tableThen t x)) c ≡ true
-busy-call-stays t l g x c known busy =
-    true-has (isCall c) (entries (tableThen t x))
-    (rw (step-agrees t l g x .calls (isCall c))
-    (stays l (lowestSlot l (totalOf t) 0) c (fourOf (x .message)) (is 20 (fed t x .answer)) (is 22 (fed t x .answer))
-    (λ e. apart-from (held t) c (fourOf (x .message)) busy (step-closes t l g x e .1))
-    (rw (← (g .calls (isCall c))) (has-true (isCall c) (entries t) known))))
+pub busy-call-stays : BusyCallStays
+busy-call-stays t l g x c known busy = (still, λ y under. connection-stays t l g x y)
+  where
+    still : isOpen (entries (tableThen t x)) c ≡ true
+    still =
+        true-has (isCall c) (entries (tableThen t x))
+        (rw (step-agrees t l g x .calls (isCall c))
+        (stays l (lowestSlot l (totalOf t)) c (fourOf (x .message)) (is 20 (fed t x .answer)) (is 22 (fed t x .answer))
+        (λ e. apart-from (held t) c (fourOf (x .message)) busy (step-closes t l g x e .1))
+        (rw (← (g .calls (isCall c))) (has-true (isCall c) (entries t) known))))

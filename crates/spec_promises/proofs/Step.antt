@@ -1,35 +1,38 @@
--- One message: table and ledger agree after it as before it, and the roster stays.
+-- One message: table and ledger agree after it as before it, the roster stays, and connections come and go by it alone.
 -- Assumes nothing.
 use Prim.Native.Nat.{ℕ, _<_}
 use native.Mathlib.Omega.{arith}
 use mathlib.Core.Path.{_≡_, refl}
-use mathlib.Core.List.{List}
+use mathlib.Core.List.{List, _∷_}
 use mathlib.Core.Bool.{Bool, true, false, cond}
 use lib.ListN.{length}
 use Rattle.numbers.specs.BigEndian.{Bytes}
-use Rattle.lists.specs.Count.{count, without}
+use Rattle.lists.specs.Count.{countIf, without}
 use Rattle.messages.specs.declared.message.Connection.{Connection}
 use Rattle.messages.specs.declared.message.Message.the-variants.{Open, Close, Add, Drop}
 use Rattle.replies.proofs.Lengths.{part-length}
 use Rattle.table.specs.Table.{Table}
 use Rattle.table.specs.Total.{totalOf}
-use Rattle.table.specs.Lists.{roster, Entry, entries, held}
-use Rattle.table.specs.Rules.{rulesHold}
+use Rattle.table.specs.Lists.{roster, Entry, entries, Held, held}
+use Rattle.table.specs.Rules.{isLsp, rulesHold}
 use Rattle.spec_changes.specs.Calls.{opened, isCall, closed, identifierTaken}
 use Rattle.spec_changes.specs.Connections.{added, removed, isUnder}
 use Rattle.spec_changes.proofs.Valid.{valid-place}
-use Rattle.spec_changes.proofs.Added.{MayAdd, added-roster}
-use Rattle.spec_changes.proofs.Removed.{removed-roster}
+use Rattle.spec_changes.proofs.Told.{rules-kept}
+use Rattle.spec_changes.proofs.Closed.{closed-held}
+use Rattle.spec_changes.proofs.Added.{MayAdd, added-roster, added-held}
+use Rattle.spec_changes.proofs.Removed.{removed-roster, removed-held}
 use Rattle.answers.specs.Answers.{is, sendsNotify}
 use Rattle.spec_calls.specs.Form.{Form, faulty, sound, formOf}
 use Rattle.spec_calls.specs.CallRules.{idsIn, openAnswer, closeAnswer}
-use Rattle.spec_calls.specs.PathRules.{heldBy, addAnswer, dropAnswer}
+use Rattle.spec_calls.specs.PathRules.{lspOf, heldBy, addAnswer, dropAnswer}
 use Rattle.spec_calls.specs.Handling.{formAnswer, answerFrom2, answerOf, formTable, tableAfter}
 use Rattle.spec_promises.specs.Ledger.{fourOf, feed}
+use Rattle.spec_promises.specs.Connections.{feedHeld}
 use Rattle.spec_promises.specs.Promises.{Input, fed, tableThen, Agrees}
 use Rattle.spec_calls.proofs.Decided.{may-open, open-never, may-close, close-never, may-add, add-never, may-drop, drop-never}
-use Rattle.spec_promises.proofs.Formed.{Says, form-says}
-use Rattle.spec_promises.proofs.Agreement.{next-agrees, open-agrees, close-agrees, add-agrees, remove-agrees}
+use Rattle.spec_promises.proofs.Formed.{Says, fault-never, form-says}
+use Rattle.spec_promises.proofs.Agreement.{next-agrees, open-agrees, open-held, close-agrees, add-agrees, remove-agrees}
 
 never {ℓ} : {A : Type ℓ} (b : Bool) → b ≡ true → b ≡ false → A
 never b e f = let z : _≡_ {A = ℕ} 0 1 = cc in absurd (omega arith)
@@ -62,7 +65,7 @@ module _ (t : Table) (l : List Entry) (g : Agrees t l) where
   module _ (s : List ℕ) (bytes : Bytes s) (room : ℕ) where
     form-agrees : (f : Form) → Says (roster t) s f
         → Agrees (formTable t s f (formAnswer t s f)) (feed (totalOf t) (record { message = s; room = room; answer = formAnswer t s f }) l)
-    form-agrees (faulty a) i = rw (i .not20, i .not22) g
+    form-agrees (faulty a) i = rw (fault-never a i 20 (omega arith), fault-never a i 22 (omega arith)) g
     form-agrees (sound (Open q)) i =
         let a = openAnswer (totalOf t) (roster t) (entries t) (idsIn s q) in
         rw (i .four, open-never (totalOf t) (roster t) (entries t) (idsIn s q) 22 refl refl refl refl refl)
@@ -73,15 +76,15 @@ module _ (t : Table) (l : List Entry) (g : Agrees t l) where
         let a = closeAnswer (entries t) (held t) (idsIn s q) in
         rw (i .four, close-never (entries t) (held t) (idsIn s q) 20 refl refl refl)
         (by-answer (is 22 a) (sendsNotify a) (closed t (idsIn s q)) (without (isCall (idsIn s q)) l)
-        (λ e. close-agrees t l g (idsIn s q) (may-close (entries t) (held t) (idsIn s q) e .0)))
+        (λ e. let m = may-close (entries t) (held t) (idsIn s q) e in close-agrees t l g (idsIn s q) (m .0) (m .1)))
     form-agrees (sound (Add c)) i =
         let a = addAnswer (entries t) (held t) (heldBy c) in
         rw (add-never (entries t) (held t) (heldBy c) 20 refl refl refl refl refl, add-never (entries t) (held t) (heldBy c) 22 refl refl refl refl refl)
         (by-path (is 23 a) (sendsNotify a) (added t (heldBy c)) (λ e. add-agrees t l g (heldBy c) (may-add-all s bytes c i e)))
     form-agrees (sound (Drop c)) i =
-        let a = dropAnswer (held t) (heldBy c) in
-        rw (drop-never (entries t) (held t) (heldBy c) 20 refl refl, drop-never (entries t) (held t) (heldBy c) 22 refl refl)
-        (by-path (is 25 a) (sendsNotify a) (removed t (heldBy c)) (λ e. remove-agrees t l g (heldBy c) (may-drop (entries t) (held t) (heldBy c) e)))
+        let a = dropAnswer (held t) (lspOf (c .lsp)) in
+        rw (drop-never (held t) (lspOf (c .lsp)) 20 refl refl, drop-never (held t) (lspOf (c .lsp)) 22 refl refl)
+        (by-path (is 25 a) (sendsNotify a) (removed t (lspOf (c .lsp))) (λ e. remove-agrees t l g (lspOf (c .lsp)) (may-drop (held t) (lspOf (c .lsp)) e)))
 
   -- table and ledger agree after every message
   pub step-agrees : (x : Input) → Agrees (tableThen t x) (feed (totalOf t) (fed t x) l)
@@ -112,8 +115,8 @@ module _ (t : Table) (l : List Entry) (g : Agrees t l) where
       let a = addAnswer (entries t) (held t) (heldBy c) in
       roster-by (is 23 a) (sendsNotify a) (added t (heldBy c)) (λ e. added-roster t (heldBy c) (g .shape) (may-add-all s bytes c i e))
   form-roster s bytes (sound (Drop c)) i =
-      let a = dropAnswer (held t) (heldBy c) in
-      roster-by (is 25 a) (sendsNotify a) (removed t (heldBy c)) (λ e. removed-roster t (heldBy c) (g .shape) (may-drop (entries t) (held t) (heldBy c) e))
+      let a = dropAnswer (held t) (lspOf (c .lsp)) in
+      roster-by (is 25 a) (sendsNotify a) (removed t (lspOf (c .lsp))) (λ e. removed-roster t (lspOf (c .lsp)) (g .shape) (may-drop (held t) (lspOf (c .lsp)) e))
 
   pub step-roster : (x : Input) → roster (tableThen t x) ≡ roster t
   unfolding tableAfter
@@ -124,16 +127,63 @@ module _ (t : Table) (l : List Entry) (g : Agrees t l) where
 
   -- ---- 22 is given only to a call of the ledger that has no connections
   form-closes : (s : List ℕ) (f : Form) → Says (roster t) s f → is 22 (formAnswer t s f) ≡ true
-      → (0 < count (isCall (fourOf s)) l) × (count (isUnder (fourOf s)) (held t) ≡ 0)
-  form-closes s (faulty a) i e = never _ e (i .not22)
+      → (0 < countIf (isCall (fourOf s)) l) × (countIf (isUnder (fourOf s)) (held t) ≡ 0)
+  form-closes s (faulty a) i e = never _ e (fault-never a i 22 (omega arith))
   form-closes s (sound (Open q)) i e =
       never _ e (open-never (totalOf t) (roster t) (entries t) (idsIn s q) 22 refl refl refl refl refl)
   form-closes s (sound (Close q)) i e =
       rw (i .four, ← (g .calls (isCall (idsIn s q)))) (may-close (entries t) (held t) (idsIn s q) e)
   form-closes s (sound (Add c)) i e = never _ e (add-never (entries t) (held t) (heldBy c) 22 refl refl refl refl refl)
-  form-closes s (sound (Drop c)) i e = never _ e (drop-never (entries t) (held t) (heldBy c) 22 refl refl)
+  form-closes s (sound (Drop c)) i e = never _ e (drop-never (held t) (lspOf (c .lsp)) 22 refl refl)
 
-  pub step-closes : (x : Input) → is 22 (fed t x .answer) ≡ true → (0 < count (isCall (fourOf (x .message))) l) × (count (isUnder (fourOf (x .message))) (held t) ≡ 0)
+  pub step-closes : (x : Input) → is 22 (fed t x .answer) ≡ true → (0 < countIf (isCall (fourOf (x .message))) l) × (countIf (isUnder (fourOf (x .message))) (held t) ≡ 0)
   step-closes x e =
       let room = length (x .buffer) in
       form-closes (x .message) (formOf (roster t) (x .message) room) (form-says (roster t) (x .message) room) (rw (answer-is t (x .message) room (g .rules)) at e)
+
+  -- ---- the connections afterwards are those that messages and answers tell
+
+  held-by : (b notified : Bool) (u : Table) (k : List Held) (p : Held → Bool) → (b ≡ true → countIf p (held u) ≡ countIf p k)
+      → countIf p (held (cond notified (identifierTaken (cond b u t)) (cond b u t))) ≡ countIf p (cond b k (held t))
+  held-by true true u k p h = h refl
+  held-by true false u k p h = h refl
+  held-by false true u k p h = refl
+  held-by false false u k p h = refl
+
+  -- a change that leaves the connections as they are
+  held-as-before : (b notified : Bool) (u : Table) (p : Held → Bool) → (b ≡ true → countIf p (held u) ≡ countIf p (held t))
+      → countIf p (held (cond notified (identifierTaken (cond b u t)) (cond b u t))) ≡ countIf p (held t)
+  held-as-before true true u p h = h refl
+  held-as-before true false u p h = h refl
+  held-as-before false true u p h = refl
+  held-as-before false false u p h = refl
+
+  module _ (s : List ℕ) (bytes : Bytes s) (room : ℕ) (p : Held → Bool) where
+    form-held : (f : Form) → Says (roster t) s f
+        → countIf p (held (formTable t s f (formAnswer t s f))) ≡ countIf p (feedHeld (record { message = s; room = room; answer = formAnswer t s f }) (held t))
+    form-held (faulty a) i = rw (fault-never a i 23 (omega arith), fault-never a i 25 (omega arith))
+    form-held (sound (Open q)) i =
+        let a = openAnswer (totalOf t) (roster t) (entries t) (idsIn s q) in
+        rw (open-never (totalOf t) (roster t) (entries t) (idsIn s q) 23 refl refl refl refl refl, open-never (totalOf t) (roster t) (entries t) (idsIn s q) 25 refl refl refl refl refl)
+        (held-as-before (is 20 a) (sendsNotify a) (opened t (idsIn s q)) p (λ e. open-held t l g (idsIn s q) (may-open (totalOf t) (roster t) (entries t) (idsIn s q) (i .known) e) p))
+    form-held (sound (Close q)) i =
+        let a = closeAnswer (entries t) (held t) (idsIn s q) in
+        rw (close-never (entries t) (held t) (idsIn s q) 23 refl refl refl, close-never (entries t) (held t) (idsIn s q) 25 refl refl refl)
+        (held-as-before (is 22 a) (sendsNotify a) (closed t (idsIn s q)) p
+        (λ e. let m = may-close (entries t) (held t) (idsIn s q) e in closed-held t (idsIn s q) (g .shape) (m .0) (m .1) p))
+    form-held (sound (Add c)) i =
+        let a = addAnswer (entries t) (held t) (heldBy c) in
+        rw (i .connection, add-never (entries t) (held t) (heldBy c) 25 refl refl refl refl refl)
+        (held-by (is 23 a) (sendsNotify a) (added t (heldBy c)) (heldBy c ∷ held t) p (λ e. added-held t (heldBy c) (g .shape) (may-add-all s bytes c i e) p))
+    form-held (sound (Drop c)) i =
+        let a = dropAnswer (held t) (lspOf (c .lsp)) in
+        rw (i .connection, drop-never (held t) (lspOf (c .lsp)) 23 refl refl)
+        (held-by (is 25 a) (sendsNotify a) (removed t (lspOf (c .lsp))) (without (isLsp (lspOf (c .lsp))) (held t)) p
+        (λ e. removed-held t (lspOf (c .lsp)) (g .shape) (may-drop (held t) (lspOf (c .lsp)) e) (rules-kept t (g .rules)) p))
+
+  pub step-held : (x : Input) (p : Held → Bool) → countIf p (held (tableThen t x)) ≡ countIf p (feedHeld (fed t x) (held t))
+  unfolding tableAfter
+  step-held x p =
+      let room = length (x .buffer) in
+      rw (answer-is t (x .message) room (g .rules))
+      (form-held (x .message) (x .bytes) room p (formOf (roster t) (x .message) room) (form-says (roster t) (x .message) room))

@@ -1,10 +1,11 @@
 -- The ledger (01, The ledger behind demand 3): fed with each message, its answer and the buffer's length, never with
 -- the table.
-use Prim.Native.Nat.{ℕ, zero, suc}
+use Prim.Native.Nat.{ℕ}
 use mathlib.Core.List.{List, [], _∷_}
 use mathlib.Core.Bool.{cond, _&&_}
 use lib.Dec.{eqb}
-use Rattle.lists.specs.Count.{count, has, without}
+use Rattle.lists.specs.Count.{countIf, has, without}
+use Rattle.lists.specs.Below.{firstNot}
 use Rattle.messages.specs.declared.message.Message.{Message}
 use Rattle.messages.specs.declared.message.Message.the-variants.{Open, Close, Add, Drop}
 use Rattle.messages.specs.declared.read.Reading.{Reading}
@@ -39,15 +40,14 @@ readFour s (Read message headers) = messageFour s message
 unfoldable pub fourOf : List ℕ → Ids
 fourOf s = readFour s (readOf s)
 
--- an entry's slot is the lowest that no other has: the lowest number from k on, of n
-abbrev pub lowestSlot : List Entry → ℕ → ℕ → ℕ
-lowestSlot l zero k = k
-lowestSlot l (suc n) k = cond (has (λ e. eqb k (e .slot)) l) (lowestSlot l n (suc k)) k
+-- an entry's slot is the lowest that no other has
+abbrev pub lowestSlot : List Entry → ℕ → ℕ
+lowestSlot l total = firstNot (λ k. has (λ e. eqb k (e .slot)) l) total 0
 
 -- 20 adds an entry with the message's four, 22 takes it out; every other answer changes nothing
 abbrev pub feed : ℕ → Fed → List Entry → List Entry
 feed total e l =
-    cond (is 20 (e .answer)) (record { slot = lowestSlot l total 0; ids = fourOf (e .message) } ∷ l)
+    cond (is 20 (e .answer)) (record { slot = lowestSlot l total; ids = fourOf (e .message) } ∷ l)
     (cond (is 22 (e .answer)) (without (isCall (fourOf (e .message))) l)
     l)
 
@@ -58,4 +58,4 @@ ledger total start (e ∷ h) = feed total e (ledger total start h)
 
 -- how often a message of a sender was answered by a number: 20 is opened, 22 closed
 abbrev pub answered : ℕ → ℕ → List Fed → ℕ
-answered number sender h = count (λ e. is number (e .answer) && eqb (fourOf (e .message) .sender) sender) h
+answered number sender h = countIf (λ e. is number (e .answer) && eqb (fourOf (e .message) .sender) sender) h

@@ -1,2 +1,4 @@
 pub mod Ledger
+pub mod Connections
 pub mod Promises
+pub mod Claims

@@ -8,12 +8,12 @@ use lib.Dec.{ltb, eqb}
 use lib.ListN.{length}
 use Rattle.numbers.specs.BigEndian.{Bytes}
 use Rattle.numbers.specs.Search.{isIn}
-use Rattle.lists.specs.Count.{count}
+use Rattle.lists.specs.Count.{countIf}
 use Rattle.messages.specs.declared.message.CallRequest.{CallRequest}
 use Rattle.messages.specs.declared.message.Message.the-variants.{Open}
 use Rattle.table.specs.Table.{Table}
 use Rattle.table.specs.Lists.{Terms, Ids, Entry, entries}
-use Rattle.table.specs.Share.{listed, guaranteeOf, limitOf, callsOf, S}
+use Rattle.table.specs.Share.{isListed, guaranteeOf, limitOf, callsOf, S}
 use Rattle.table.specs.Rules.{rulesHold}
 use Rattle.spec_changes.specs.Shape.{Shape}
 use Rattle.answers.specs.Answers.{answerNumber}
@@ -48,6 +48,14 @@ dueAnswer total r l sender =
     (cond (eqb (callsOf l sender) (limitOf r sender) || eqb (S r l) total) 34
     20)
 
+-- why a setup of no fault is refused, by what the ledger has (01, Every answer): each refusal has its cause, and there
+-- is no other
+pub record Cause (total : ℕ) (r : List Terms) (l : List Entry) (c : Ids) (number : ℕ) : Type 0 where
+  pub short : number ≡ 30 → (shortInUse l c ≡ true) × (longInUse l c ≡ false)
+  pub long : number ≡ 31 → (longInUse l c ≡ true) × (isOpen l c ≡ false)
+  pub share : number ≡ 34 → (callsOf l (c .sender) ≡ limitOf r (c .sender)) ⊎ ((guaranteeOf r (c .sender) ≤ callsOf l (c .sender)) × (S r l ≡ total))
+  pub only : isIn number (20 ∷ 21 ∷ 30 ∷ 31 ∷ 34 ∷ []) ≡ true
+
 -- what holds of the answer to one input, and of the ledger after it
 pub record Promised (total : ℕ) (r : List Terms) (start : List Entry) (t : Table) (h : List Fed) (x : Input) : Type 0 where
   -- the table is never found broken
@@ -58,7 +66,7 @@ pub record Promised (total : ℕ) (r : List Terms) (start : List Entry) (t : Tab
   pub counted : (sender : ℕ)
       → callsOf start sender + answered 20 sender (fed t x ∷ h) ≡ callsOf (ledger total start (fed t x ∷ h)) sender + answered 22 sender (fed t x ∷ h)
   -- no customer has more calls in the ledger than its limit
-  pub limited : (sender : ℕ) → listed r sender ≡ true → callsOf (ledger total start (fed t x ∷ h)) sender ≤ limitOf r sender
+  pub limited : (sender : ℕ) → isListed r sender ≡ true → callsOf (ledger total start (fed t x ∷ h)) sender ≤ limitOf r sender
   -- a setup of no fault, judged by the ledger before it, whose call is not open and whose IDs its pair does not use, is
   -- answered what its customer is due; bytes and buffer length alone tell whether it has a fault
   pub due : (q : CallRequest) → formOf r (fed t x .message) (fed t x .room) ≡ sound (Open q)
@@ -66,23 +74,21 @@ pub record Promised (total : ℕ) (r : List Terms) (start : List Entry) (t : Tab
       → longInUse (ledger total start h) (idsIn (x .message) q) ≡ false
       → shortInUse (ledger total start h) (idsIn (x .message) q) ≡ false
       → answerNumber (fed t x .answer) ≡ dueAnswer total r (ledger total start h) (q .sender)
+  -- a setup of no fault whose call is open in the ledger is a retry and is answered 21: nothing is opened a second time
+  pub retried : (q : CallRequest) → formOf r (fed t x .message) (fed t x .room) ≡ sound (Open q)
+      → isOpen (ledger total start h) (idsIn (x .message) q) ≡ true → answerNumber (fed t x .answer) ≡ 21
+  -- every setup of no fault that is refused has its cause in the ledger
+  pub caused : (q : CallRequest) → formOf r (fed t x .message) (fed t x .room) ≡ sound (Open q)
+      → Cause total r (ledger total start h) (idsIn (x .message) q) (answerNumber (fed t x .answer))
 
 -- a table that keeps the rules, and whose open calls are a ledger's entries, in any order
 pub record Agrees (t : Table) (l : List Entry) : Type 0 where
   pub shape : Shape t
   pub rules : rulesHold t ≡ true
-  pub calls : (p : Entry → Bool) → count p (entries t) ≡ count p l
+  pub calls : (p : Entry → Bool) → countIf p (entries t) ≡ countIf p l
 
 -- calls and connections are as they were (demand 1; the connections of Call ID 0 stand with their customers)
 pub record Unchanged (before after : Table) : Type 0 where
   pub occupied : after .occupied ≡ before .occupied
   pub calls : after .calls ≡ before .calls
   pub customers : after .customers ≡ before .customers
-
--- why a setup of no fault is refused, by what the ledger has (01, Every answer): each refusal has its cause, and there
--- is no other
-pub record Cause (total : ℕ) (r : List Terms) (l : List Entry) (c : Ids) (number : ℕ) : Type 0 where
-  pub short : number ≡ 30 → (shortInUse l c ≡ true) × (longInUse l c ≡ false)
-  pub long : number ≡ 31 → (longInUse l c ≡ true) × (isOpen l c ≡ false)
-  pub share : number ≡ 34 → (callsOf l (c .sender) ≡ limitOf r (c .sender)) ⊎ ((guaranteeOf r (c .sender) ≤ callsOf l (c .sender)) × (S r l ≡ total))
-  pub only : isIn number (20 ∷ 21 ∷ 30 ∷ 31 ∷ 34 ∷ []) ≡ true

@@ -2,9 +2,8 @@
 -- afterwards.
 -- Assumes nothing.
 use mathlib.Core.Path.{_≡_, refl}
-use mathlib.Core.List.{map}
-use lib.Count.{trailingZeros}
 use Rattle.numbers.specs.Buffer.{atFront}
+use Rattle.numbers.specs.Checksum.{firstWords, allRound, wordsSum}
 use Rattle.numbers.specs.Search.{isIn, zerosAt}
 use Rattle.objects.specs.Classes.{passedOver, refusedClass}
 use Rattle.objects.specs.Forms.{hasForm, attributeFormed, formed, misformed}
@@ -12,9 +11,12 @@ use Rattle.objects.specs.Item.{badLength, itemAt}
 use Rattle.objects.specs.Walk.{seen, objectsOf, walkFrom, walkOf}
 use Rattle.messages.specs.Header.{badMessageLength, checksumHolds, typeOf, headerOf}
 use Rattle.messages.specs.Counts.{notifyComplete, pathComplete}
-use Rattle.messages.specs.Fields.{connectionAt, requestAt}
+use Rattle.messages.specs.Fields.{connectionIn, requestAt}
 use Rattle.messages.specs.Read.{isCallRequest, badIdentity, notifyOf, pathOf, readOf}
-use Rattle.lists.specs.Below.{when, listIf, below, everyBelow, firstBelow}
+use Rattle.reply_objects.specs.Header.{checksumOf, withChecksum}
+use Rattle.replies.specs.Messages.{pathErrBeforeChecksum, pathErrBytes, notifyBeforeChecksum, notifyBytes}
+use Rattle.lists.specs.Below.{elementIf, listIf, below, everyBelow, firstBelow, firstNot}
+use Rattle.table.specs.Word.{withUsed, withFree}
 use Rattle.table.specs.Zeros.{noCall, noCustomer, emptyTable}
 use Rattle.table.specs.Share.{S}
 use Rattle.table.specs.Rules.{badShare, acceptable, rosterHolds, sameBytes, sameShort, sameLong, validIds, sameLsp, placeClear, placeValid, callFreeClear, callClear, customerFreeClear, customerClear, rulesHold}
@@ -25,8 +27,13 @@ use Rattle.spec_calls.specs.Form.{listedOr11, formOf}
 use Rattle.spec_calls.specs.CallRules.{shareUsedUp, openAnswer, closeAnswer}
 use Rattle.spec_calls.specs.PathRules.{addAnswer, dropAnswer}
 use Rattle.spec_calls.specs.Handling.{answerOf, tableAfter, replyAfter}
-use Rattle.starred_cases.specs.TwoCustomers.{expected, outcomes, cases}
+use Rattle.starred_cases.specs.TwoCustomers.{cases, CasesHold}
+use Rattle.starred_cases.specs.Replies.{replyCases, RepliesHold}
 
-pub cases-hold : outcomes emptyTable cases ≡ map expected cases
-unfolding cases trailingZeros atFront isIn zerosAt passedOver refusedClass hasForm attributeFormed formed misformed badLength itemAt seen objectsOf walkFrom walkOf badMessageLength checksumHolds typeOf headerOf notifyComplete pathComplete connectionAt requestAt isCallRequest badIdentity notifyOf pathOf readOf when listIf below everyBelow firstBelow noCall noCustomer emptyTable S badShare acceptable rosterHolds sameBytes sameShort sameLong validIds sameLsp placeClear placeValid callFreeClear callClear customerFreeClear customerClear rulesHold badForm recordsAnswer rosterAnswer customersFrom freshTable tableFor opened closed addedUnder removedUnder added removed listedOr11 formOf shareUsedUp openAnswer closeAnswer addAnswer dropAnswer answerOf tableAfter replyAfter
+pub cases-hold : CasesHold
+unfolding cases withUsed withFree firstNot atFront isIn zerosAt passedOver refusedClass hasForm attributeFormed formed misformed badLength itemAt seen objectsOf walkFrom walkOf badMessageLength checksumHolds typeOf headerOf notifyComplete pathComplete connectionIn requestAt isCallRequest badIdentity notifyOf pathOf readOf elementIf listIf below everyBelow firstBelow noCall noCustomer emptyTable S badShare acceptable rosterHolds sameBytes sameShort sameLong validIds sameLsp placeClear placeValid callFreeClear callClear customerFreeClear customerClear rulesHold badForm recordsAnswer rosterAnswer customersFrom freshTable tableFor opened closed addedUnder removedUnder added removed listedOr11 formOf shareUsedUp openAnswer closeAnswer addAnswer dropAnswer answerOf tableAfter replyAfter
 cases-hold = refl
+
+pub replies-hold : RepliesHold
+unfolding replyCases withUsed withFree firstNot atFront isIn zerosAt passedOver refusedClass hasForm attributeFormed formed misformed badLength itemAt seen objectsOf walkFrom walkOf badMessageLength checksumHolds typeOf headerOf notifyComplete pathComplete connectionIn requestAt isCallRequest badIdentity notifyOf pathOf readOf elementIf listIf below everyBelow firstBelow noCall noCustomer emptyTable S badShare acceptable rosterHolds sameBytes sameShort sameLong validIds sameLsp placeClear placeValid callFreeClear callClear customerFreeClear customerClear rulesHold badForm recordsAnswer rosterAnswer customersFrom freshTable tableFor opened closed addedUnder removedUnder added removed listedOr11 formOf shareUsedUp openAnswer closeAnswer addAnswer dropAnswer answerOf tableAfter replyAfter pathErrBytes pathErrBeforeChecksum notifyBytes notifyBeforeChecksum withChecksum checksumOf wordsSum allRound firstWords
+replies-hold = refl

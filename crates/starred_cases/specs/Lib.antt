@@ -1,1 +1,2 @@
 pub mod TwoCustomers
+pub mod Replies

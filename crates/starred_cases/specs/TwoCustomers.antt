@@ -1,14 +1,17 @@
 -- The starred cases of 01, "Two customers, one table", as one table of rows on the bytes of rosters and messages.
 use Prim.Native.Nat.{ℕ, zero, suc, _+_, _*_}
-use mathlib.Core.List.{List, [], _∷_, _++_}
+use mathlib.Core.Path.{_≡_}
+use mathlib.Core.List.{List, [], _∷_, _++_, map}
 use mathlib.Core.Bool.{Bool, true, false, _&&_}
 use lib.Dec.{eqb}
 use lib.ListN.{length, replicate}
 use Rattle.numbers.specs.BigEndian.{bytes16, bytes32}
 use Rattle.lists.specs.Below.{below, everyBelow}
+use Rattle.reply_objects.specs.Buffer.{leastBuffer}
 use Rattle.table.specs.declared.answer.RosterAnswer.{RosterAnswer}
 use Rattle.table.specs.Table.{Call, Table}
 use Rattle.table.specs.Total.{totalOf}
+use Rattle.table.specs.Zeros.{emptyTable}
 use Rattle.table.specs.Lists.{customerAt, roster, callAt, entries, Four, callFour, customerFour, placeAt}
 use Rattle.table.specs.Share.{S}
 use Rattle.table.specs.Rules.{sameBytes}
@@ -20,18 +23,18 @@ use Rattle.spec_calls.specs.Handling.{Handled, handled}
 
 -- what holds after a row: the answer's number, S, the number of open calls, and whether calls and connections are as
 -- they were
-pub record Outcome : Type 0 where
+pub record StarredResult : Type 0 where
   pub answer : ℕ
   pub sum : ℕ
   pub calls : ℕ
   pub equal : Bool
 
 -- a roster starts anew; or, on the table that the row before left, some messages are handled and then one is looked at
-pub data Row : Type 0 where
-  begin : List ℕ → Outcome → Row
-  ask : List (List ℕ) → List ℕ → Outcome → Row
+pub data StarredCase : Type 0 where
+  begin : List ℕ → StarredResult → StarredCase
+  ask : List (List ℕ) → List ℕ → StarredResult → StarredCase
 
-abbrev pub expected : Row → Outcome
+abbrev pub expected : StarredCase → StarredResult
 expected (begin bytes outcome) = outcome
 expected (ask before message outcome) = outcome
 
@@ -54,13 +57,13 @@ unchanged t u =
 -- ---- the run
 
 abbrev pub buffer : List ℕ
-buffer = replicate 128 0
+buffer = replicate leastBuffer 0
 
 abbrev tableThrough : Table → List (List ℕ) → Table
 tableThrough t [] = t
 tableThrough t (s ∷ l) = tableThrough (handled t s buffer .table) l
 
-abbrev outcomeOf : ℕ → Table → Table → Outcome
+abbrev outcomeOf : ℕ → Table → Table → StarredResult
 outcomeOf answer before after = record {
   answer = answer;
   sum = S (roster after) (entries after);
@@ -69,19 +72,19 @@ outcomeOf answer before after = record {
 }
 
 -- the outcome of a row, and what the rows behind it come to
-abbrev thenRows : Table → ℕ → Table → (Table → List Outcome) → List Outcome
+abbrev thenRows : Table → ℕ → Table → (Table → List StarredResult) → List StarredResult
 thenRows before answer after rest = outcomeOf answer before after ∷ rest after
 
-abbrev begun : Table → RosterAnswer → List ℕ → (Table → List Outcome) → List Outcome
+abbrev begun : Table → RosterAnswer → List ℕ → (Table → List StarredResult) → List StarredResult
 begun t answer bytes rest = thenRows t (rosterNumber answer) (tableFor answer bytes) rest
 
-abbrev asked : Table → Handled → (Table → List Outcome) → List Outcome
+abbrev asked : Table → Handled → (Table → List StarredResult) → List StarredResult
 asked t h rest = thenRows t (answerNumber (h .answer)) (h .table) rest
 
-abbrev askedOn : Table → List ℕ → (Table → List Outcome) → List Outcome
+abbrev askedOn : Table → List ℕ → (Table → List StarredResult) → List StarredResult
 askedOn t message rest = asked t (handled t message buffer) rest
 
-abbrev pub outcomes : Table → List Row → List Outcome
+abbrev pub outcomes : Table → List StarredCase → List StarredResult
 outcomes t [] = []
 outcomes t (begin bytes outcome ∷ rows) = begun t (rosterAnswer bytes) bytes (λ u. outcomes u rows)
 outcomes t (ask before message outcome ∷ rows) = askedOn (tableThrough t before) message (λ u. outcomes u rows)
@@ -140,10 +143,10 @@ abbrev callsOfY : ℕ → List (List ℕ)
 callsOfY zero = []
 callsOfY (suc n) = setup Y (suc n) (suc n) ∷ callsOfY n
 
-abbrev after : ℕ → ℕ → ℕ → Bool → Outcome
+abbrev after : ℕ → ℕ → ℕ → Bool → StarredResult
 after answer sum calls equal = record { answer = answer; sum = sum; calls = calls; equal = equal }
 
-unfoldable pub cases : List Row
+unfoldable pub cases : List StarredCase
 cases =
     -- fresh table: S is 63
     begin (rosterOf 1 2 62 64) (after 0 63 0 true)
@@ -168,3 +171,7 @@ cases =
     ∷ begin (rosterOf 2 64 62 64) (after 0 64 0 false)
     ∷ begin (rosterOf 3 64 62 64) (after 46 0 0 true)
     ∷ []
+
+-- the definitions give what 01 says of each row
+abbrev pub CasesHold : Type 0
+CasesHold = outcomes emptyTable cases ≡ map expected cases

@@ -13,13 +13,13 @@ use Rattle.numbers.specs.BigEndian.{Bytes, be24At, be32At}
 use Rattle.numbers.specs.Search.{zerosAt}
 use Rattle.numbers.proofs.BigEndian.{be24-bound}
 use Rattle.lists.specs.Count.{has, noTwo}
-use Rattle.lists.specs.Below.{when, listIf, below, everyBelow}
+use Rattle.lists.specs.Below.{elementIf, listIf, below, everyBelow}
 use Rattle.lists.proofs.Count.{sum-ext, has-nothing}
 use Rattle.lists.proofs.Below.{has-turn, below-ext, below-nothing, below-first, below-more, getD-each, every-within}
 use Rattle.lists.proofs.Pairs.{no-two-append, meet-element}
 use Rattle.lists.proofs.Tests.{eqb-swap}
 use Rattle.table.specs.declared.answer.RosterAnswer.{RosterAnswer}
-use Rattle.table.specs.declared.answer.RosterAnswer.the-variants.{Accepted, Short, Form, Length, SpareBits, Share, Repeated, Guarantees}
+use Rattle.table.specs.declared.answer.RosterAnswer.the-variants.{Accepted, Short, BadForm, Length, SpareBits, Share, Repeated, Guarantees}
 use Rattle.table.specs.Table.{Table}
 use Rattle.table.specs.Total.{total}
 use Rattle.table.specs.Word.{isUsed}
@@ -28,6 +28,7 @@ use Rattle.table.specs.Lists.{Terms, customerAt, termsOf, listedAt, rost
 use Rattle.table.specs.Share.{isAt, S}
 use Rattle.table.specs.Rules.{badShare, sameAddress, guarantees, acceptable, rosterHolds, overLimit, placeClear, placeValid, callClear, customerFreeClear, customerClear, slotFreeClear, recordFreeClear, withinLimits, shareWithinTotal, namesAndIds, holds, rulesHold}
 use Rattle.table.specs.Roster.{rosterNumber, formIn, customersIn, termsIn, spareIn, recordsIn, badForm, recordsAnswer, rosterAnswer, customerIn, customersFrom, freshTable}
+use Rattle.table.specs.Claims.{FreshHolds, EmptyHolds}
 
 -- ---- a table with no calls and no connections
 
@@ -55,19 +56,19 @@ module _ (address epoch : ℕ) (s : List ℕ) (n : ℕ) where
   unfolding customersFrom
   customer-at k h = getD-each (λ k. cond (ltb k n) (customerIn s k) noCustomer) 8 k pastCustomer h
 
-  listed-at : (k : ℕ) → k < 8 → listedAt idle k ≡ when (ltb k n) (termsIn s k)
-  unfolding when
+  listed-at : (k : ℕ) → k < 8 → listedAt idle k ≡ elementIf (ltb k n) (termsIn s k)
+  unfolding elementIf
   listed-at k h = rw (customer-at k h) (by (ltb k n))
     where
-      by : (b : Bool) → when b (termsOf (cond b (customerIn s k) noCustomer)) ≡ when b (termsIn s k)
+      by : (b : Bool) → elementIf b (termsOf (cond b (customerIn s k) noCustomer)) ≡ elementIf b (termsIn s k)
       by true = refl
       by false = refl
 
   roster-is : n ≤ 8 → roster idle ≡ recordsIn s n
-  roster-is h = below-ext (listedAt idle) (λ k. when (ltb k n) (termsIn s k)) 8 listed-at ∙ below-first (termsIn s) n 8 h
+  roster-is h = below-ext (listedAt idle) (λ k. elementIf (ltb k n) (termsIn s k)) 8 listed-at ∙ below-first (termsIn s) n 8 h
 
   no-entries : entries idle ≡ []
-  unfolding when
+  unfolding elementIf
   no-entries = below-nothing (openAt idle) 64 (λ i h. rw (all-free i))
 
   none-under-calls : (i : ℕ) → heldAt idle i ≡ []
@@ -75,7 +76,7 @@ module _ (address epoch : ℕ) (s : List ℕ) (n : ℕ) where
   none-under-calls i = rw (all-free i)
 
   none-standalone : (k : ℕ) → k < 8 → standaloneAt idle k ≡ []
-  unfolding listIf when below
+  unfolding listIf elementIf below
   none-standalone k h = rw (customer-at k h) (by (ltb k n))
     where
       by : (b : Bool) → listIf b (heldIn (customerFour (cond b (customerIn s k) noCustomer))) ≡ []
@@ -117,7 +118,7 @@ module _ (address epoch : ℕ) (s : List ℕ) (n : ℕ) where
       rw (r, within-limits, within-total few g, valid-ids, every-within (slotFreeClear idle) 64 slot-free-clear, every-within (recordFreeClear idle) 8 record-free-clear, no-entries, none-held)
 
 -- the empty table lists no records
-pub empty-holds : rulesHold emptyTable ≡ true
+pub empty-holds : EmptyHolds
 unfolding emptyTable customersFrom below rosterHolds
 empty-holds = idle-holds 0 0 [] 0 (omega arith) (omega arith) refl
 
@@ -142,7 +143,7 @@ good-count s h =
 
 one-more-good : (s : List ℕ) (k : ℕ) → has (badShare total) (recordsIn s k) ≡ false → badShare total (termsIn s k) ≡ false
     → has (badShare total) (recordsIn s (k + 1)) ≡ false
-unfolding when
+unfolding elementIf
 one-more-good s k h b = sym (has-turn (λ j. termsIn s j ∷ []) (badShare total) k false false true (termsIn s k) refl (sym h) (sym b))
 
 one-more-apart : (s : List ℕ) (k : ℕ) → noTwo sameAddress (recordsIn s k) ≡ true → has (isAt (be32At s (8 + 6 * k))) (recordsIn s k) ≡ false
@@ -174,12 +175,12 @@ good-acceptable : (r : List Terms) → Good r → acceptable total r ≡ true
 unfolding acceptable
 good-acceptable r g = rw (g .shares, g .apart, le-leb (guarantees r) total (g .sum))
 
-pub fresh-holds : (s : List ℕ) → Bytes s → rosterAnswer s ≡ Accepted → rulesHold (freshTable s) ≡ true
+pub fresh-holds : FreshHolds
 unfolding rosterAnswer freshTable rosterHolds below
 fresh-holds s bytes h =
     let n = customersIn s in
     let o = passed (ltb (length s) 8) Short _ refl h in
-    let f = passed (badForm s) Form _ refl (o .1) in
+    let f = passed (badForm s) BadForm _ refl (o .1) in
     let l = passed (not (eqb (length s) (8 + 6 * n))) Length _ refl (f .1) in
     let c = good-count s (f .0) in
     let g = records-good s 0 n n (zero-add n) refl refl (l .1) in
@@ -192,7 +193,7 @@ pub fresh-roster : (s : List ℕ) → rosterAnswer s ≡ Accepted → roster (fr
 unfolding rosterAnswer freshTable
 fresh-roster s h =
     let o = passed (ltb (length s) 8) Short _ refl h in
-    let f = passed (badForm s) Form _ refl (o .1) in
+    let f = passed (badForm s) BadForm _ refl (o .1) in
     roster-is (be32At s 1) (be24At s 5) s (customersIn s) (good-count s (f .0) .1)
 
 pub fresh-entries : (s : List ℕ) → entries (freshTable s) ≡ []

@@ -5,3 +5,4 @@ pub mod Fresh
 pub mod Cells
 pub mod Names
 pub mod Told
+pub mod Computed

@@ -10,10 +10,10 @@ use lib.Dec.{eqb}
 use lib.ListN.{length}
 use lib.Pow.{pow-pos, mod-pow-add}
 use lib.Count.{ones, ones-ones, ones-cat}
-use Rattle.lists.specs.Count.{bit, count}
+use Rattle.lists.specs.Count.{bit, countIf}
 use Rattle.lists.specs.Below.{below}
 use Rattle.lists.proofs.Count.{count-all}
-use Rattle.lists.proofs.Below.{count-none, count-below, count-when}
+use Rattle.lists.proofs.Below.{count-none, count-below, count-element}
 use Rattle.table.specs.Word.{isUsed}
 use Rattle.table.specs.Lists.{Entry, openAt, entries, idsOf, callAt}
 use Rattle.table.specs.Table.{Table}
@@ -26,7 +26,7 @@ digit (suc (suc d)) h = absurd (not-suc-le-zero (le-of-suc-le-suc (le-of-suc-le-
 mod-high : (n w : ℕ) → w % 2 ^ suc n ≡ w / 2 ^ n % 2 * 2 ^ n + w % 2 ^ n
 mod-high n w = subst (λ (k : ℕ). w % 2 ^ k ≡ w / 2 ^ n % 2 * 2 ^ n + w % 2 ^ n) (add-comm 1 n ∙ add-one n) (mod-pow-add w 1 n)
 
-low-ones : (t : Table) (n : ℕ) → ones (t .occupied % 2 ^ n) ≡ count (λ x. true) (below (openAt t) n)
+low-ones : (t : Table) (n : ℕ) → ones (t .occupied % 2 ^ n) ≡ countIf (λ x. true) (below (openAt t) n)
 low-ones t zero = rw mod-one (ones-ones 0) ∙ sym (count-none (openAt t) (λ x. true))
 low-ones t (suc n) =
     let w = t .occupied in
@@ -37,7 +37,7 @@ low-ones t (suc n) =
       digit (w / 2 ^ n % 2) (mod-lt (w / 2 ^ n) two),
       low-ones t n,
       count-below (openAt t) (λ x. true) n,
-      count-when {A = Entry} (λ x. true) (isUsed w n) (record { slot = n; ids = idsOf (callAt t n) }) ∙ ap bit (and-true (isUsed w n)),
+      count-element {A = Entry} (λ x. true) (isUsed w n) (record { slot = n; ids = idsOf (callAt t n) }) ∙ ap bit (and-true (isUsed w n)),
     )
 
 pub ones-calls : (t : Table) → t .occupied < 2 ^ 64 → ones (t .occupied) ≡ length (entries t)

@@ -12,6 +12,7 @@ use borrow.Author.Tests.{ltb-true, ltb-false}
 use Rattle.lists.specs.Below.{below}
 use Rattle.table.specs.Total.{total}
 use Rattle.table.specs.Words.{placeAtWord, placesAtWord, callAtWord, customerAtWord, customerStart, callStart, tableOf, wordCount}
+use Rattle.table.specs.Claims.{WordsTold}
 use Rattle.table.proofs.Names.{cells-told, name-told}
 
 -- one of the first numbers
@@ -119,6 +120,9 @@ module _ (w v : List ℕ) where
         (cells-told (λ j. callAtWord w (callStart j) ∷ []) (λ j. callAtWord v (callStart j) ∷ []) 1 (λ i. refl) (λ i. refl) total (ap (λ t. t .calls) e) j (omega arith)) in
         moved (callStart j + (k - 190) % 32) k (omega arith) (call-told (callStart j) p ((k - 190) % 32) (omega arith))) k m) k g) k h
 
-    -- each word has 32 bits, as those of an array have; only the occupancy's lower word needs it
-    pub words-told : length w ≡ wordCount → length v ≡ wordCount → w ≡ v
-    words-told n m = ext-getD 0 w v (n ∙ sym m) (λ i l. word-told i (omega arith))
+    told : length w ≡ wordCount → length v ≡ wordCount → w ≡ v
+    told n m = ext-getD 0 w v (n ∙ sym m) (λ i l. word-told i (omega arith))
+
+-- only the occupancy's lower word needs its 32 bits
+pub words-told : WordsTold
+words-told w v lw lv e = told w v (lw 4) (lv 4) e

@@ -5,7 +5,7 @@ use mathlib.Core.List.{List, _++_}
 use mathlib.Core.Bool.{Bool}
 use lib.Dec.{eqb, ltb}
 use lib.ListN.{take, getD}
-use Rattle.lists.specs.Below.{when, listIf, below}
+use Rattle.lists.specs.Below.{elementIf, listIf, below}
 use Rattle.table.specs.Table.{Place, Call, Customer, Table}
 use Rattle.table.specs.Total.{totalOf}
 use Rattle.table.specs.Word.{isUsed}
@@ -25,7 +25,7 @@ abbrev pub termsOf : Customer → Terms
 termsOf c = record { address = c .address; guarantee = c .guarantee; limit = c .limit }
 
 abbrev pub listedAt : Table → ℕ → List Terms
-listedAt t k = when (ltb k (t .listed)) (termsOf (customerAt t k))
+listedAt t k = elementIf (ltb k (t .listed)) (termsOf (customerAt t k))
 
 abbrev pub roster : Table → List Terms
 roster t = below (listedAt t) 8
@@ -51,7 +51,7 @@ abbrev pub idsOf : Call → Ids
 idsOf c = record { endpoint = c .endpoint; sender = c .sender; short = c .id; long = take (c .size) (c .name) }
 
 abbrev pub openAt : Table → ℕ → List Entry
-openAt t i = when (isUsed (t .occupied) i) (record { slot = i; ids = idsOf (callAt t i) })
+openAt t i = elementIf (isUsed (t .occupied) i) (record { slot = i; ids = idsOf (callAt t i) })
 
 abbrev pub entries : Table → List Entry
 entries t = below (openAt t) (totalOf t)
@@ -104,7 +104,7 @@ connectionAt f j = record {
 }
 
 abbrev pub heldPlace : Four → ℕ → List Held
-heldPlace f j = when (isTaken (placeAt f j)) (connectionAt f j)
+heldPlace f j = elementIf (isTaken (placeAt f j)) (connectionAt f j)
 
 abbrev pub heldIn : Four → List Held
 heldIn f = below (heldPlace f) 4

@@ -8,7 +8,7 @@ use Rattle.numbers.specs.BigEndian.{be16At, be24At, be32At}
 use Rattle.lists.specs.Count.{has}
 use Rattle.lists.specs.Below.{below}
 use Rattle.table.specs.declared.answer.RosterAnswer.{RosterAnswer}
-use Rattle.table.specs.declared.answer.RosterAnswer.the-variants.{Accepted, Short, Form, Length, SpareBits, Share, Repeated, Guarantees}
+use Rattle.table.specs.declared.answer.RosterAnswer.the-variants.{Accepted, Short, BadForm, Length, SpareBits, Share, Repeated, Guarantees}
 use Rattle.table.specs.Table.{Customer, Table}
 use Rattle.table.specs.Total.{total}
 use Rattle.table.specs.Zeros.{noPlace, noCall, noCustomer, emptyTable}
@@ -19,7 +19,7 @@ use Rattle.table.specs.Rules.{badShare, guarantees}
 abbrev pub rosterNumber : RosterAnswer → ℕ
 rosterNumber Accepted = 0
 rosterNumber Short = 40
-rosterNumber Form = 41
+rosterNumber BadForm = 41
 rosterNumber Length = 42
 rosterNumber SpareBits = 43
 rosterNumber Share = 44
@@ -61,7 +61,7 @@ recordsAnswer s k (suc left) =
 unfoldable pub rosterAnswer : List ℕ → RosterAnswer
 rosterAnswer s =
     cond (ltb (length s) 8) Short
-    (cond (badForm s) Form
+    (cond (badForm s) BadForm
     (cond (not (eqb (length s) (8 + 6 * customersIn s))) Length
     (recordsAnswer s 0 (customersIn s))))
 

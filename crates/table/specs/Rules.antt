@@ -14,8 +14,8 @@ use Rattle.lists.specs.Below.{everyBelow}
 use Rattle.table.specs.Table.{Place, Call, Customer, Table}
 use Rattle.table.specs.Total.{totalOf}
 use Rattle.table.specs.Word.{isUsed}
-use Rattle.table.specs.Lists.{Terms, customerAt, roster, Ids, Entry, callAt, entries, Held, Four, callFour, customerFour, placeAt, isTaken, held}
-use Rattle.table.specs.Share.{listed, callsOf, S}
+use Rattle.table.specs.Lists.{Terms, customerAt, roster, Ids, Entry, callAt, entries, Lsp, Held, Four, callFour, customerFour, placeAt, isTaken, held}
+use Rattle.table.specs.Share.{isListed, callsOf, S}
 
 -- ---- an acceptable roster (01, The roster: 44, 45, 46)
 
@@ -42,7 +42,7 @@ rosterHolds t =
 -- ---- calls
 
 abbrev pub unlisted : List Terms → Entry → Bool
-unlisted r e = not (listed r (e .ids .sender))
+unlisted r e = not (isListed r (e .ids .sender))
 
 abbrev pub overLimit : List Entry → Terms → Bool
 overLimit l c = ltb (c .limit) (callsOf l (c .address))
@@ -71,13 +71,22 @@ validIds c = not (eqb (c .id) 0) && ltb (c .id) 0x10000 && not (eqb (c .size) 0)
 
 -- ---- connections
 
-unfoldable pub sameLsp : Held → Held → Bool
+-- what a connection is known by (01, Every answer: connections are the same): the Call ID is no part of it
+unfoldable pub sameLsp : Lsp → Lsp → Bool
 sameLsp x y =
-    eqb (x .lsp .endpoint) (y .lsp .endpoint)
-    && eqb (x .lsp .sender) (y .lsp .sender)
-    && eqb (x .lsp .tunnel) (y .lsp .tunnel)
-    && eqb (x .lsp .extended) (y .lsp .extended)
-    && eqb (x .lsp .lspId) (y .lsp .lspId)
+    eqb (x .endpoint) (y .endpoint)
+    && eqb (x .sender) (y .sender)
+    && eqb (x .tunnel) (y .tunnel)
+    && eqb (x .extended) (y .extended)
+    && eqb (x .lspId) (y .lspId)
+
+-- a connection held is the one that is looked for
+abbrev pub isLsp : Lsp → Held → Bool
+isLsp x y = sameLsp x (y .lsp)
+
+-- two connections held are the same, whatever Call IDs they stand under
+abbrev pub sameConnection : Held → Held → Bool
+sameConnection x y = isLsp (x .lsp) y
 
 -- ---- what is free holds zeros
 
@@ -137,7 +146,7 @@ holds shareWithinTotal t = leb (S (roster t) (entries t)) (totalOf t)
 holds shortIdsOnce t = noTwo (λ e f. sameShort (e .ids) (f .ids)) (entries t)
 holds longIdsOnce t = noTwo (λ e f. sameLong (e .ids) (f .ids)) (entries t)
 holds namesAndIds t = everyBelow (λ i. not (isUsed (t .occupied) i) || validIds (callAt t i)) (totalOf t)
-holds connectionsOnce t = noTwo sameLsp (held t)
+holds connectionsOnce t = noTwo sameConnection (held t)
 holds freeHoldsZeros t = everyBelow (slotFreeClear t) (totalOf t) && everyBelow (recordFreeClear t) 8
 
 -- answer 1 is given unless every rule holds

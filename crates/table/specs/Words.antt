@@ -1,4 +1,4 @@
--- The table that an array of 32-bit words is. Words and table are one to one (proofs/Told.antt, words-told), so that a
+-- The table that an array of 32-bit words is. Words and table are one to one (Claims.antt, WordsTold), so that a
 -- contract on the table settles every word. The code's constants are those of table/src/layout.rt.
 --
 --   0 address   1 epoch   2 next   3 listed   4 occupied, slots 0 to 31   5 occupied, slots 32 to 63

@@ -7,7 +7,7 @@ pub enum RosterAnswer {
     // Shorter than its fixed part.
     Short,
     // Form or customer count.
-    Form,
+    BadForm,
     Length,
     // A record's spare bits, its guarantee and limit, or its address.
     SpareBits,
@@ -24,7 +24,7 @@ pub fn roster_number(a: RosterAnswer) -> u8
     match a {
         RosterAnswer::Accepted => 0,
         RosterAnswer::Short => 40,
-        RosterAnswer::Form => 41,
+        RosterAnswer::BadForm => 41,
         RosterAnswer::Length => 42,
         RosterAnswer::SpareBits => 43,
         RosterAnswer::Share => 44,

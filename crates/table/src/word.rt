@@ -2,7 +2,7 @@
 ghost use mathlib.Core.Path.{_≡_};
 ghost use Prim.Native.Nat.{_<_};
 ghost use Rattle.table.specs.Total.{total};
-ghost use Rattle.table.specs.Word.{isUsed, lowestFree};
+ghost use Rattle.table.specs.Word.{isUsed, lowestFree, withUsed, withFree};
 
 // Whether a slot is used. The word has a bit for each of the slots below `SLOTS`, and no other.
 pub fn is_used(word: u64, slot: usize) -> bool
@@ -17,4 +17,20 @@ pub fn lowest_free(word: u64) -> usize
     ensures { λ r. ⌜ r ≡ lowestFree word ⌝ }
 {
     u64::trailing_zeros(!word) as usize
+}
+
+// The word with a slot marked as used, whatever it was.
+pub fn with_used(word: u64, slot: usize) -> u64
+    requires { ⌜ slot < total ⌝ }
+    ensures { λ r. ⌜ r ≡ withUsed word slot ⌝ }
+{
+    word | (1u64 << slot)
+}
+
+// The word with a slot marked as free, whatever it was.
+pub fn with_free(word: u64, slot: usize) -> u64
+    requires { ⌜ slot < total ⌝ }
+    ensures { λ r. ⌜ r ≡ withFree word slot ⌝ }
+{
+    word & !(1u64 << slot)
 }

@@ -11,7 +11,7 @@ use Rattle.table.specs.Lists.{callAt, customerAt, callFour, customerFour}
 use Rattle.table.specs.Words.{callStart, customerStart, tableOf}
 use Rattle.table.proofs.Cells.{call-at, customer-at, endpoint-at}
 use Rattle.table_words.specs.declared.fours.FourPlace.{FourPlace}
-use Rattle.table_words.specs.Fours.{fourAtWord, Alike, Inside}
+use Rattle.table_words.specs.Fours.{fourAtWord, Alike, FourInside}
 
 module _ (w : List ℕ) (i : ℕ) (l : i < total) where
   abbrev pub callFourPlace : FourPlace
@@ -23,7 +23,7 @@ module _ (w : List ℕ) (i : ℕ) (l : i < total) where
     places = callStart i + 16;
   }
 
-  pub call-four : Alike (fourAtWord w callFourPlace) (callFour (callAt (tableOf w) i)) × Inside callFourPlace
+  pub call-four : Alike (fourAtWord w callFourPlace) (callFour (callAt (tableOf w) i)) × FourInside callFourPlace
   call-four =
       let e = call-at w i l in (
         record {
@@ -45,7 +45,7 @@ module _ (w : List ℕ) (k : ℕ) (l : k < 8) where
     places = customerStart k + 7;
   }
 
-  pub customer-four : Alike (fourAtWord w customerFourPlace) (customerFour (customerAt (tableOf w) k)) × Inside customerFourPlace
+  pub customer-four : Alike (fourAtWord w customerFourPlace) (customerFour (customerAt (tableOf w) k)) × FourInside customerFourPlace
   customer-four =
       let e = customer-at w k l in (
         record {

@@ -29,6 +29,6 @@ pub record Alike (f g : Four) : Type 0 where
   pub endpoint : (j : ℕ) → j < 4 → f .endpoint j ≡ g .endpoint j
   pub places : f .places ≡ g .places
 
-pub record Inside (f : FourPlace) : Type 0 where
+pub record FourInside (f : FourPlace) : Type 0 where
   pub endpoint : f .endpoint + 4 ≤ wordCount
   pub places : f .places + 16 ≤ wordCount

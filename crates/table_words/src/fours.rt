@@ -6,7 +6,7 @@ ghost use Rattle.table.specs.Zeros.{noPlace};
 ghost use Rattle.table.specs.Lists.{callAt, customerAt, callFour, customerFour, placeAt};
 ghost use Rattle.table.specs.Stores.{withSlot, withCustomer, withPlace, withStandalonePlace};
 ghost use Rattle.table.specs.Words.{tableOf};
-ghost use Rattle.table_words.specs.Fours.{fourAtWord, placeOfWords, Alike, Inside};
+ghost use Rattle.table_words.specs.Fours.{fourAtWord, placeOfWords, Alike, FourInside};
 use crate::calls::CallWord;
 use crate::words::sized;
 use crate::words::word;
@@ -52,7 +52,7 @@ pub struct FourPlace {
 
 pub fn call_four(t: &Words, i: usize) -> FourPlace
     requires { ⌜ i < total ⌝ }
-    ensures { λ r. ⌜ Alike (fourAtWord (now (t .entry)) r) (callFour (callAt (tableOf (now (t .entry))) i)) × Inside r ⌝ }
+    ensures { λ r. ⌜ Alike (fourAtWord (now (t .entry)) r) (callFour (callAt (tableOf (now (t .entry))) i)) × FourInside r ⌝ }
 {
     let b = FIRST_CALL + CALL_WORDS * i;
     FourPlace {
@@ -66,7 +66,7 @@ pub fn call_four(t: &Words, i: usize) -> FourPlace
 
 pub fn customer_four(t: &Words, k: usize) -> FourPlace
     requires { ⌜ k < 8 ⌝ }
-    ensures { λ r. ⌜ Alike (fourAtWord (now (t .entry)) r) (customerFour (customerAt (tableOf (now (t .entry))) k)) × Inside r ⌝ }
+    ensures { λ r. ⌜ Alike (fourAtWord (now (t .entry)) r) (customerFour (customerAt (tableOf (now (t .entry))) k)) × FourInside r ⌝ }
 {
     let b = FIRST_CUSTOMER + CUSTOMER_WORDS * k;
     FourPlace {
@@ -80,7 +80,7 @@ pub fn customer_four(t: &Words, k: usize) -> FourPlace
 
 // Here and below, the four lies within the table: `call_four` and `customer_four` promise that.
 pub fn place_words(t: &Words, f: FourPlace, j: usize) -> PlaceWords
-    requires { ⌜ Inside f × (j < 4) ⌝ }
+    requires { ⌜ FourInside f × (j < 4) ⌝ }
     ensures { λ r. ⌜ placeOfWords r ≡ placeAt (fourAtWord (now (t .entry)) f) j ⌝ }
 {
     let b = f.places + PLACE_WORDS * j;
@@ -93,7 +93,7 @@ pub fn place_words(t: &Words, f: FourPlace, j: usize) -> PlaceWords
 }
 
 pub fn endpoint_at(t: &Words, f: FourPlace, j: usize) -> u32
-    requires { ⌜ Inside f × (j < 4) ⌝ }
+    requires { ⌜ FourInside f × (j < 4) ⌝ }
     ensures { λ r. ⌜ r ≡ fourAtWord (now (t .entry)) f .endpoint j ⌝ }
 {
     word(t, f.endpoint, number_if(f.each, j))

@@ -3,7 +3,7 @@ ghost use mathlib.Core.Path.{_≡_};
 ghost use Prim.Native.Nat.{_<_, _≤_};
 ghost use Rattle.objects.specs.Part.{Within};
 ghost use Rattle.table.specs.Total.{total};
-ghost use Rattle.table.specs.Word.{lowestFree, flipped};
+ghost use Rattle.table.specs.Word.{lowestFree, withFree};
 ghost use Rattle.table.specs.Zeros.{noCall};
 ghost use Rattle.table.specs.Stores.{withSlot};
 ghost use Rattle.table.specs.Words.{callAtWord, tableOf};
@@ -12,6 +12,8 @@ ghost use Rattle.spec_calls.specs.CallRules.{idsIn};
 use messages::message::CallRequest;
 use table::identifier::identifier_after;
 use table::layout::Words;
+use table::word::with_free;
+use table::word::with_used;
 use table_words::calls::CallHead;
 use table_words::calls::CallWord;
 use table_words::calls::call_words;
@@ -21,24 +23,6 @@ use table_words::head::occupied;
 use table_words::head::set_next;
 use table_words::head::set_occupied;
 use table_words::names::name_words;
-
-// One slot changes sides.
-pub fn flip(word: u64, slot: usize) -> u64
-    requires { ⌜ slot < total ⌝ }
-    ensures { λ r. ⌜ r ≡ flipped word slot ⌝ }
-{
-    word ^ (1u64 << slot)
-}
-
-// A slot changes sides, and holds these words. A slot is one of the table's.
-pub fn turn_slot(t: &mut Words, slot: usize, x: &[u32; 32])
-    requires { ⌜ slot < total ⌝ }
-    ensures { λ _. ⌜ tableOf (now (t .exit)) ≡ withSlot (tableOf (now (t .entry))) (flipped (tableOf (now (t .entry)) .occupied) slot) slot (callAtWord (now (x .entry)) 0) ⌝ }
-{
-    let word = occupied(t);
-    put_slot(t, slot, x);
-    set_occupied(t, flip(word, slot));
-}
 
 // The words of a request's call. Its name lies within the message and fits the slot: the reading promises that.
 fn new_call(msg: &[u8], q: CallRequest) -> [u32; 32]
@@ -64,17 +48,21 @@ pub fn open_slot(t: &mut Words, slot: usize, msg: &[u8], q: CallRequest)
     requires { ⌜ Within (now msg) (q .name) × (q .name .size ≤ 32) × (slot ≡ lowestFree (tableOf (now t) .occupied)) × (slot < total) ⌝ }
     ensures { λ _. ⌜ tableOf (now (t .exit)) ≡ opened (tableOf (now (t .entry))) (idsIn (now (msg .entry)) q) ⌝ }
 {
-    let x = new_call(msg, q);
-    turn_slot(t, slot, &x);
+    let word = occupied(t);
+    let call = new_call(msg, q);
+    put_slot(t, slot, &call);
+    set_occupied(t, with_used(word, slot));
 }
 
-// A slot free again, with zeros in it.
+// A slot free, with zeros in it, whatever it was.
 pub fn close_slot(t: &mut Words, slot: usize)
     requires { ⌜ slot < total ⌝ }
-    ensures { λ _. ⌜ tableOf (now (t .exit)) ≡ withSlot (tableOf (now (t .entry))) (flipped (tableOf (now (t .entry)) .occupied) slot) slot noCall ⌝ }
+    ensures { λ _. ⌜ tableOf (now (t .exit)) ≡ withSlot (tableOf (now (t .entry))) (withFree (tableOf (now (t .entry)) .occupied) slot) slot noCall ⌝ }
 {
-    let x = [0u32; 32];
-    turn_slot(t, slot, &x);
+    let word = occupied(t);
+    let zeros = [0u32; 32];
+    put_slot(t, slot, &zeros);
+    set_occupied(t, with_free(word, slot));
 }
 
 pub fn take_identifier(t: &mut Words)

@@ -3,7 +3,7 @@
 use native.Mathlib.Omega.{arith}
 use mathlib.Core.Path.{_≡_}
 use Rattle.lists.specs.Below.{below, firstBelow}
-use Rattle.table.specs.Lists.{Held, Four}
+use Rattle.table.specs.Lists.{Lsp, Four}
 use Rattle.table_words.specs.Fours.{Alike}
 use Rattle.table_words.proofs.Alike.{alike-place}
 use Rattle.spec_changes.specs.Connections.{freePlace, placeWith}
@@ -12,7 +12,7 @@ module _ (f g : Four) (a : Alike f g) where
   pub free-alike : freePlace f ≡ freePlace g
   free-alike = rw (a .places)
 
-  pub with-alike : (x : Held) → placeWith f x ≡ placeWith g x
+  pub with-alike : (x : Lsp) → placeWith f x ≡ placeWith g x
   unfolding firstBelow below
   with-alike x =
       let e = alike-place f g a in

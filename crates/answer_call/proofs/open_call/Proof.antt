@@ -100,7 +100,7 @@ open-slot-requires c κs =
     let e = open-new _ _ _ _ (sym (f .known) ∙ d .before .before .before .before .before .if1 .left) (sym (f .long) ∙ d .before .before .before .before .if2 .left) (sym (f .short) ∙ d .before .before .before .if3 .left)
     (sym (d .before .share-used-up .ensures) ∙ d .if4 .left) in
     let slot : c .before .lowest-free .result ≡ lowestFree (tableOf (z .args .t .now) .occupied) = c .before .lowest-free .ensures ∙ ap lowestFree (w .occupied .ensures) in
-    (p .2 .name, p .2 .nameMost, slot, rw slot (open-room _ _ (p .0) (omega (arith, w .occupied .ensures)) (p .1) e))
+    (p .2 .name, p .2 .nameMost, slot, rw slot (open-room _ _ (p .0) (p .1) e))
 
 notified-requires-5 : tie.Need-notified-requires-5
 notified-requires-5 c κs = search needs

@@ -44,6 +44,9 @@ returns-2 c =
     (add-again (entries t) (held t) (heldBy (a .c)) (sym (s .other) ∙ c .before .before .before .before .if1 .left) (sym (s .here) ∙ c .before .if2 .taken))
     (c .unanswered2 .ensures) refl refl
 
+is-no-call-requires : tie.Need-is-no-call-requires
+is-no-call-requires c κs = search needs
+
 path-refused-requires : tie.Need-path-refused-requires
 path-refused-requires c κs = let p = c .before .before .before .before .before .before .before .before .before .before .before .before .before .before .before .before .before .pre in (p .2, p .3)
 
@@ -57,7 +60,7 @@ returns-3 c =
     let s = seen t (heldBy (a .c)) _ _ (c .before .before .before .before .before .before .before .before .before .before .before .before .before .before .before .before .look-under .ensures) (c .before .before .before .before .before .before .before .before .before .before .before .before .before .before .look-standalone .ensures) in
     let n = c .before .before .path-refused .ensures in
     ruled-by t _ _ (Add (a .c)) PathUnknownCall _ _ t _
-    (add-unknown (entries t) (held t) (heldBy (a .c)) (sym (s .other) ∙ c .before .before .before .before .before .before .before .before .before .before .before .if1 .left) (sym (s .here) ∙ c .before .before .before .before .before .before .before .before .if2 .left) (sym (s .missing) ∙ c .before .before .before .before .before .if3 .taken))
+    (add-unknown (entries t) (held t) (heldBy (a .c)) (sym (s .other) ∙ c .before .before .before .before .before .before .before .before .before .before .before .if1 .left) (sym (s .here) ∙ c .before .before .before .before .before .before .before .before .if2 .left) (sym (s .missing _ (c .before .before .before .before .before .before .before .is-no-call .ensures)) ∙ c .before .before .before .before .before .if3 .taken))
     (n .0) (n .1) refl (n .2)
 
 is-full-requires : tie.Need-is-full-requires
@@ -77,11 +80,11 @@ returns-4 c =
     let n = c .before .before .path-refused2 .ensures in
     ruled-by t _ _ (Add (a .c)) NoPlaceLeft _ _ t _
     (add-full (entries t) (held t) (heldBy (a .c)) (sym (s .other) ∙ c .before .before .before .before .before .before .before .before .before .before .before .before .before .if1 .left) (sym (s .here) ∙ c .before .before .before .before .before .before .before .before .before .before .if2 .left)
-    (sym (s .missing) ∙ c .before .before .before .before .before .before .before .if3 .left) (ap (leb 4) (sym (s .four)) ∙ sym (c .before .before .before .before .before .before .is-full .ensures) ∙ c .before .before .before .before .before .if4 .taken))
+    (sym (s .missing _ (c .before .before .before .before .before .before .before .before .before .is-no-call .ensures)) ∙ c .before .before .before .before .before .before .before .if3 .left) (ap (leb 4) (sym (s .four)) ∙ sym (c .before .before .before .before .before .before .is-full .ensures) ∙ c .before .before .before .before .before .if4 .taken))
     (n .0) (n .1) refl (n .2)
 
 customer-of-requires : tie.Need-customer-of-requires
-customer-of-requires c κs = search needs
+customer-of-requires c κs = c .before .before .before .before .before .before .before .before .before .before .before .before .before .before .before .before .before .before .before .pre .1
 
 add-standalone-requires : tie.Need-add-standalone-requires
 add-standalone-requires c κs = search needs
@@ -96,14 +99,14 @@ returns-5 c =
     let s = seen t (heldBy (a .c)) _ _ (c .before .before .before .before .before .before .before .before .before .before .before .before .before .before .before .before .before .before .before .look-under .ensures) (c .before .before .before .before .before .before .before .before .before .before .before .before .before .before .before .before .before .look-standalone .ensures) in
     ruled-quiet t _ _ (Add (a .c)) ConnectionAdded _ _
     (add-new (entries t) (held t) (heldBy (a .c)) (sym (s .other) ∙ c .before .before .before .before .before .before .before .before .before .before .before .before .before .before .if1 .left) (sym (s .here) ∙ c .before .before .before .before .before .before .before .before .before .before .before .if2 .left)
-    (sym (s .missing) ∙ c .before .before .before .before .before .before .before .before .if3 .left) (ap (leb 4) (sym (s .four)) ∙ sym (c .before .before .before .before .before .before .before .is-full .ensures) ∙ c .before .before .before .before .before .before .if4 .left))
+    (sym (s .missing _ (c .before .before .before .before .before .before .before .before .before .before .is-no-call .ensures)) ∙ c .before .before .before .before .before .before .before .before .if3 .left) (ap (leb 4) (sym (s .four)) ∙ sym (c .before .before .before .before .before .before .before .is-full .ensures) ∙ c .before .before .before .before .before .before .if4 .left))
     (c .unanswered3 .ensures)
-    (c .before .add-standalone .ensures ∙ added-standalone t (heldBy (a .c)) _ (c .before .before .before .before .before .if5 .taken) (c .before .before .before .customer-of .ensures .0)) refl
+    (c .before .add-standalone .ensures ∙ added-standalone t (heldBy (a .c)) _ (sym (c .before .before .before .before .before .before .before .before .before .before .is-no-call .ensures) ∙ c .before .before .before .before .before .if5 .taken) (c .before .before .before .customer-of .ensures .0)) refl
 
 add-under-requires : tie.Need-add-under-requires
 add-under-requires c κs =
     let a = c .before .before .before .before .before .before .before .before .before .before .before .before .before .before .before .before .before .before .before .args in
-    call-inside (tableOf (a .t .now)) (heldBy (a .c)) _ (c .before .before .before .before .before .before .before .before .before .before .before .before .before .before .before .look-under .ensures) (c .before .before .before .before .if3 .left) (c .before .if5 .left)
+    call-inside (tableOf (a .t .now)) (heldBy (a .c)) _ (c .before .before .before .before .before .before .before .before .before .before .before .before .before .before .before .look-under .ensures) _ (c .before .before .before .before .if3 .left) (c .before .if5 .left)
 
 unanswered-requires-4 : tie.Need-unanswered-requires-4
 unanswered-requires-4 c κs = search needs
@@ -115,9 +118,9 @@ returns-6 c =
     let s = seen t (heldBy (a .c)) _ _ (c .before .before .before .before .before .before .before .before .before .before .before .before .before .before .before .before .before .look-under .ensures) (c .before .before .before .before .before .before .before .before .before .before .before .before .before .before .before .look-standalone .ensures) in
     ruled-quiet t _ _ (Add (a .c)) ConnectionAdded _ _
     (add-new (entries t) (held t) (heldBy (a .c)) (sym (s .other) ∙ c .before .before .before .before .before .before .before .before .before .before .before .before .if1 .left) (sym (s .here) ∙ c .before .before .before .before .before .before .before .before .before .if2 .left)
-    (sym (s .missing) ∙ c .before .before .before .before .before .before .if3 .left) (ap (leb 4) (sym (s .four)) ∙ sym (c .before .before .before .before .before .is-full .ensures) ∙ c .before .before .before .before .if4 .left))
+    (sym (s .missing _ (c .before .before .before .before .before .before .before .before .is-no-call .ensures)) ∙ c .before .before .before .before .before .before .if3 .left) (ap (leb 4) (sym (s .four)) ∙ sym (c .before .before .before .before .before .is-full .ensures) ∙ c .before .before .before .before .if4 .left))
     (c .unanswered4 .ensures)
-    (c .before .add-under .ensures ∙ added-under t (heldBy (a .c)) _ (c .before .before .before .if5 .left) (s .slot)) refl
+    (c .before .add-under .ensures ∙ added-under t (heldBy (a .c)) _ (sym (c .before .before .before .before .before .before .before .before .is-no-call .ensures) ∙ c .before .before .before .if5 .left) (s .slot)) refl
 
 pub add-connection-spec : {M : Type 1} → statement M
 add-connection-spec =
@@ -129,6 +132,7 @@ add-connection-spec =
     returns
     unanswered-requires-2
     returns-2
+    is-no-call-requires
     path-refused-requires
     same-length
     returns-3

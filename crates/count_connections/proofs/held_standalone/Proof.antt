@@ -5,7 +5,7 @@ use mathlib.Core.Path.{_≡_, refl, sym}
 use mathlib.Core.Bool.{true}
 use borrow.Author.Needs.{needs}
 use Rattle.lists.specs.Below.{below}
-use Rattle.lists.specs.Count.{count}
+use Rattle.lists.specs.Count.{countIf}
 use Rattle.lists.proofs.Below.{count-none, count-turns}
 use Rattle.table.specs.Lists.{standaloneAt}
 use Rattle.table.specs.Words.{tableOf}
@@ -13,7 +13,7 @@ use Rattle.count_connections.proofs.held_standalone.Statement.{statemen
 use Rattle.count_connections.proofs.held_standalone.Tie as tie
 
 abbrev Inv-loop : tie.InvT-loop
-Inv-loop t listed n₀ k₀ n k = (k ≤ 8) × (n ≤ 4 * k) × (n ≡ count (λ x. true) (below (standaloneAt (tableOf t)) k))
+Inv-loop t listed n₀ k₀ n k = (k ≤ 8) × (n ≤ 4 * k) × (n ≡ countIf (λ x. true) (below (standaloneAt (tableOf t)) k))
 
 abbrev μ-loop : tie.MeasureT-loop
 μ-loop t listed n₀ k₀ n k = 8 - k

@@ -5,7 +5,7 @@ use mathlib.Core.Path.{_≡_, refl, sym}
 use mathlib.Core.Bool.{true}
 use borrow.Author.Needs.{needs}
 use Rattle.lists.specs.Below.{below}
-use Rattle.lists.specs.Count.{count}
+use Rattle.lists.specs.Count.{countIf}
 use Rattle.lists.proofs.Below.{count-none, count-turns}
 use Rattle.table.specs.Total.{total}
 use Rattle.table.specs.Lists.{heldAt}
@@ -14,7 +14,7 @@ use Rattle.count_connections.proofs.held_under_calls.Statement.{stateme
 use Rattle.count_connections.proofs.held_under_calls.Tie as tie
 
 abbrev Inv-loop : tie.InvT-loop
-Inv-loop t word n₀ i₀ n i = (i ≤ total) × (n ≤ 4 * i) × (n ≡ count (λ x. true) (below (heldAt (tableOf t)) i))
+Inv-loop t word n₀ i₀ n i = (i ≤ total) × (n ≤ 4 * i) × (n ≡ countIf (λ x. true) (below (heldAt (tableOf t)) i))
 
 abbrev μ-loop : tie.MeasureT-loop
 μ-loop t word n₀ i₀ n i = total - i

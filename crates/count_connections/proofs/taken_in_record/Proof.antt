@@ -4,7 +4,7 @@ use mathlib.Core.Path.{ap, _∙_}
 use mathlib.Core.Bool.{true}
 use borrow.Author.Tests.{lt-ltb, le-ltb}
 use borrow.Author.Needs.{needs}
-use Rattle.lists.specs.Count.{count}
+use Rattle.lists.specs.Count.{countIf}
 use Rattle.table.specs.Lists.{Held}
 use Rattle.table_words.proofs.Alike.{alike-held}
 use Rattle.count_connections.proofs.taken_in_record.Statement.{statement}
@@ -20,7 +20,7 @@ returns : tie.Need-returns
 returns c =
     let e = c .taken-in .ensures in (
       rw (lt-ltb _ _ (c .before .before .if1 .taken))
-          (e .0 ∙ ap (λ l. count (λ (x : Held). true) l) (alike-held _ _ (c .before .customer-four .ensures .0))),
+          (e .0 ∙ ap (λ l. countIf (λ (x : Held). true) l) (alike-held _ _ (c .before .customer-four .ensures .0))),
       e .1,
     )
 

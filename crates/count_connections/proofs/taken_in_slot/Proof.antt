@@ -3,7 +3,7 @@ use native.Mathlib.Omega.{arith}
 use mathlib.Core.Path.{ap, _∙_}
 use mathlib.Core.Bool.{true}
 use borrow.Author.Needs.{needs}
-use Rattle.lists.specs.Count.{count}
+use Rattle.lists.specs.Count.{countIf}
 use Rattle.table.specs.Lists.{Held}
 use Rattle.table_words.proofs.Alike.{alike-held}
 use Rattle.count_connections.proofs.taken_in_slot.Statement.{statement}
@@ -22,7 +22,7 @@ returns : tie.Need-returns
 returns c =
     let e = c .taken-in .ensures in (
       rw (← (c .before .before .before .is-used .ensures), c .before .before .if1 .taken)
-          (e .0 ∙ ap (λ l. count (λ (x : Held). true) l) (alike-held _ _ (c .before .call-four .ensures .0))),
+          (e .0 ∙ ap (λ l. countIf (λ (x : Held). true) l) (alike-held _ _ (c .before .call-four .ensures .0))),
       e .1,
     )
 

@@ -6,7 +6,7 @@ use borrow.Author.Needs.{needs}
 use Rattle.lists.specs.Pairs.{pairsBelow}
 use Rattle.lists.proofs.Pairs.{pairs-none, outer-turn, no-two-places}
 use Rattle.table.specs.Lists.{placeAt, isTaken, connectionAt}
-use Rattle.table.specs.Rules.{sameLsp}
+use Rattle.table.specs.Rules.{sameConnection}
 use Rattle.table_words.specs.Fours.{fourAtWord}
 use Rattle.fours.specs.Apart.{apart}
 use Rattle.fours.proofs.four_once.Statement.{statement}
@@ -38,7 +38,7 @@ returns c =
     let a = c .before .before .args in
     let f = fourAtWord (a .t .now) (a .f) in
     let e : c .before .loop .i ≡ 4 = omega arith in
-    rw e at (c .before .loop .inv .1) ∙ sym (no-two-places sameLsp (λ j. isTaken (placeAt f j)) (connectionAt f) 4)
+    rw e at (c .before .loop .inv .1) ∙ sym (no-two-places sameConnection (λ j. isTaken (placeAt f j)) (connectionAt f) 4)
 
 pub four-once-spec : {M : Type 1} → statement M
 four-once-spec =

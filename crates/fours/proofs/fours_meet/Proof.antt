@@ -7,14 +7,14 @@ use Rattle.lists.specs.Below.{below}
 use Rattle.lists.specs.Pairs.{meet}
 use Rattle.lists.proofs.Pairs.{meet-none, meet-turn}
 use Rattle.table.specs.Lists.{heldPlace, heldIn}
-use Rattle.table.specs.Rules.{sameLsp}
+use Rattle.table.specs.Rules.{sameConnection}
 use Rattle.table_words.specs.Fours.{fourAtWord}
 use Rattle.fours.proofs.Places.{senders-apart}
 use Rattle.fours.proofs.fours_meet.Statement.{statement}
 use Rattle.fours.proofs.fours_meet.Tie as tie
 
 abbrev Inv-loop : tie.InvT-loop
-Inv-loop t f g found₀ i₀ found i = (i ≤ 4) × (found ≡ meet sameLsp (below (heldPlace (fourAtWord t f)) i) (heldIn (fourAtWord t g)))
+Inv-loop t f g found₀ i₀ found i = (i ≤ 4) × (found ≡ meet sameConnection (below (heldPlace (fourAtWord t f)) i) (heldIn (fourAtWord t g)))
 
 abbrev μ-loop : tie.MeasureT-loop
 μ-loop t f g found₀ i₀ found i = 4 - i
@@ -25,7 +25,7 @@ returns c =
     senders-apart (fourAtWord (a .t .now) (a .f)) (fourAtWord (a .t .now) (a .g)) (c .if1 .taken)
 
 loop-holds : tie.Need-loop-holds Inv-loop μ-loop
-loop-holds c = (omega arith, sym (meet-none sameLsp _ _))
+loop-holds c = (omega arith, sym (meet-none sameConnection _ _))
 
 is-shared-requires : tie.Need-is-shared-requires Inv-loop μ-loop
 is-shared-requires c κs = search needs
@@ -37,7 +37,7 @@ loop-less : tie.Need-loop-less Inv-loop μ-loop
 loop-less c = search needs
 
 loop-again : tie.Need-loop-again Inv-loop μ-loop
-loop-again c = (omega arith, meet-turn sameLsp _ _ _ _ _ _ _ refl (c .before .before .loop .inv .1) (c .is-shared .ensures))
+loop-again c = (omega arith, meet-turn sameConnection _ _ _ _ _ _ _ refl (c .before .before .loop .inv .1) (c .is-shared .ensures))
 
 returns-2 : tie.Need-returns-2 Inv-loop μ-loop
 returns-2 c =

@@ -7,13 +7,13 @@ use Rattle.lists.specs.Count.{has}
 use Rattle.lists.specs.Below.{below}
 use Rattle.lists.proofs.Below.{has-none, has-turn}
 use Rattle.table.specs.Lists.{connectionAt, heldPlace}
-use Rattle.table.specs.Rules.{sameLsp}
+use Rattle.table.specs.Rules.{sameConnection}
 use Rattle.table_words.specs.Fours.{fourAtWord}
 use Rattle.fours.proofs.is_among.Statement.{statement}
 use Rattle.fours.proofs.is_among.Tie as tie
 
 abbrev Inv-loop : tie.InvT-loop
-Inv-loop t f i g found₀ j₀ found j = (j ≤ 4) × (found ≡ has (sameLsp (connectionAt (fourAtWord t f) i)) (below (heldPlace (fourAtWord t g)) j))
+Inv-loop t f i g found₀ j₀ found j = (j ≤ 4) × (found ≡ has (sameConnection (connectionAt (fourAtWord t f) i)) (below (heldPlace (fourAtWord t g)) j))
 
 abbrev μ-loop : tie.MeasureT-loop
 μ-loop t f i g found₀ j₀ found j = 4 - j

@@ -5,10 +5,10 @@ use Rattle.inspect.proofs.print_customers.Statement.{statement}
 use Rattle.inspect.proofs.print_customers.Tie as tie
 
 abbrev Inv-loop : tie.InvT-loop
-Inv-loop t count k₀ k = k ≤ 8
+Inv-loop t countIf k₀ k = k ≤ 8
 
 abbrev μ-loop : tie.MeasureT-loop
-μ-loop t count k₀ k = 8 - k
+μ-loop t countIf k₀ k = 8 - k
 
 listed-requires : tie.Need-listed-requires Inv-loop μ-loop
 listed-requires c κs = search needs

@@ -6,7 +6,7 @@ use mathlib.Core.List.{[], _∷_}
 use mathlib.Core.Bool.{true}
 use borrow.Author.Needs.{needs}
 use Rattle.lists.specs.Count.{has}
-use Rattle.lists.specs.Below.{when}
+use Rattle.lists.specs.Below.{elementIf}
 use Rattle.lists.proofs.Below.{has-none, has-turn}
 use Rattle.table.specs.Share.{isAt}
 use Rattle.table.specs.Roster.{termsIn, recordsIn}
@@ -38,7 +38,7 @@ loop-less : tie.Need-loop-less Inv-loop μ-loop
 loop-less c = search needs
 
 loop-again : tie.Need-loop-again Inv-loop μ-loop
-unfolding when
+unfolding elementIf
 loop-again c =
     let l = c .before .before .loop in
     let s = c .before .before .before .before .args .s .now in

@@ -9,10 +9,10 @@ use Rattle.rosters.proofs.put_roster.Statement.{statement}
 use Rattle.rosters.proofs.put_roster.Tie as tie
 
 abbrev Inv-loop : tie.InvT-loop
-Inv-loop t₀ s n count k₀ t k = (k ≤ n) × (tableOf t ≡ taking s k)
+Inv-loop t₀ s n countIf k₀ t k = (k ≤ n) × (tableOf t ≡ taking s k)
 
 abbrev μ-loop : tie.MeasureT-loop
-μ-loop t₀ s n count k₀ t k = n - k
+μ-loop t₀ s n countIf k₀ t k = n - k
 
 loop-holds : tie.Need-loop-holds Inv-loop μ-loop
 loop-holds c = (omega arith, c .before .pre .0 ∙ taking-none _)

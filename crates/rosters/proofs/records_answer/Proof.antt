@@ -13,11 +13,11 @@ use Rattle.rosters.proofs.records_answer.Statement.{statement}
 use Rattle.rosters.proofs.records_answer.Tie as tie
 
 abbrev Inv-loop : tie.InvT-loop
-Inv-loop s n count sum₀ k₀ sum k =
+Inv-loop s n countIf sum₀ k₀ sum k =
     (k ≤ n) × (sum ≡ guarantees (recordsIn s k)) × (sum ≤ 127 * k) × (recordsAnswer s k (n - k) ≡ recordsAnswer s 0 n)
 
 abbrev μ-loop : tie.MeasureT-loop
-μ-loop s n count sum₀ k₀ sum k = n - k
+μ-loop s n countIf sum₀ k₀ sum k = n - k
 
 loop-holds : tie.Need-loop-holds Inv-loop μ-loop
 loop-holds c =

@@ -3,7 +3,7 @@ use Prim.Native.Nat.{_≤_, _-_}
 use native.Mathlib.Omega.{arith}
 use mathlib.Core.Path.{_≡_, refl, sym}
 use borrow.Author.Needs.{needs}
-use Rattle.lists.specs.Count.{count}
+use Rattle.lists.specs.Count.{countIf}
 use Rattle.lists.specs.Below.{below}
 use Rattle.lists.proofs.Below.{count-none, count-turn}
 use Rattle.table.specs.Total.{total}
@@ -14,7 +14,7 @@ use Rattle.rule_limits.proofs.calls_from.Statement.{statement}
 use Rattle.rule_limits.proofs.calls_from.Tie as tie
 
 abbrev Inv-loop : tie.InvT-loop
-Inv-loop t sender word calls₀ i₀ calls i = (i ≤ total) × (calls ≤ i) × (calls ≡ count (from sender) (below (openAt (tableOf t)) i))
+Inv-loop t sender word calls₀ i₀ calls i = (i ≤ total) × (calls ≤ i) × (calls ≡ countIf (from sender) (below (openAt (tableOf t)) i))
 
 abbrev μ-loop : tie.MeasureT-loop
 μ-loop t sender word calls₀ i₀ calls i = total - i

@@ -3,7 +3,7 @@ use mathlib.Core.Path.{ap, _∙_}
 use mathlib.Core.Bool.{not}
 use borrow.Author.Needs.{needs}
 use Rattle.table.specs.Lists.{roster}
-use Rattle.table.specs.Share.{listed}
+use Rattle.table.specs.Share.{isListed}
 use Rattle.table.specs.Words.{tableOf}
 use Rattle.table_words.specs.declared.calls.CallHead.{CallHead}
 use Rattle.rule_limits.proofs.is_unlisted.Statement.{statement}
@@ -23,7 +23,7 @@ returns c =
     let d = c .before in
     let a = d .before .before .before .args in
     rw (← (d .before .before .is-used .ensures), d .before .if1 .taken)
-    (ap not (c .is-listed .ensures ∙ ap (λ (h : CallHead). listed (roster (tableOf (a .t .now))) (h .sender)) (d .call-head .ensures)))
+    (ap not (c .is-listed .ensures ∙ ap (λ (h : CallHead). isListed (roster (tableOf (a .t .now))) (h .sender)) (d .call-head .ensures)))
 
 returns-2 : tie.Need-returns-2
 returns-2 c = rw (← (c .before .is-used .ensures), c .if1 .left)

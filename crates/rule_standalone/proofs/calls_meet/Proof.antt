@@ -9,7 +9,7 @@ use Rattle.lists.specs.Pairs.{meet}
 use Rattle.lists.proofs.Pairs.{meet-none}
 use Rattle.table.specs.Total.{total}
 use Rattle.table.specs.Lists.{heldIn, heldAt}
-use Rattle.table.specs.Rules.{sameLsp}
+use Rattle.table.specs.Rules.{sameConnection}
 use Rattle.table.specs.Words.{tableOf}
 use Rattle.table_words.specs.Fours.{fourAtWord}
 use Rattle.rule_standalone.proofs.Meets.{meet-empty, meet-turns}
@@ -17,7 +17,7 @@ use Rattle.rule_standalone.proofs.calls_meet.Statement.{statement}
 use Rattle.rule_standalone.proofs.calls_meet.Tie as tie
 
 abbrev Inv-loop : tie.InvT-loop
-Inv-loop t g word found₀ i₀ found i = (i ≤ total) × (found ≡ meet sameLsp (below (heldAt (tableOf t)) i) (heldIn (fourAtWord t g)))
+Inv-loop t g word found₀ i₀ found i = (i ≤ total) × (found ≡ meet sameConnection (below (heldAt (tableOf t)) i) (heldIn (fourAtWord t g)))
 
 abbrev μ-loop : tie.MeasureT-loop
 μ-loop t g word found₀ i₀ found i = total - i
@@ -26,13 +26,13 @@ has-taken-requires : tie.Need-has-taken-requires Inv-loop μ-loop
 has-taken-requires c κs = search needs
 
 returns : tie.Need-returns Inv-loop μ-loop
-returns c = meet-empty sameLsp _ _ (sym (c .before .has-taken .ensures) ∙ not-true _ (c .if1 .taken))
+returns c = meet-empty sameConnection _ _ (sym (c .before .has-taken .ensures) ∙ not-true _ (c .if1 .taken))
 
 occupied-requires : tie.Need-occupied-requires Inv-loop μ-loop
 occupied-requires c κs = search needs
 
 loop-holds : tie.Need-loop-holds Inv-loop μ-loop
-loop-holds c = (omega arith, sym (meet-none sameLsp _ _))
+loop-holds c = (omega arith, sym (meet-none sameConnection _ _))
 
 slot-meets-requires : tie.Need-slot-meets-requires Inv-loop μ-loop
 slot-meets-requires c κs = search needs
@@ -46,7 +46,7 @@ loop-less c = search needs
 loop-again : tie.Need-loop-again Inv-loop μ-loop
 loop-again c =
     let l = c .before .before in
-    (omega arith, meet-turns sameLsp _ _ _ _ _ _ _ refl (l .loop .inv .1) (rw (← (l .before .occupied .ensures)) (c .slot-meets .ensures)))
+    (omega arith, meet-turns sameConnection _ _ _ _ _ _ _ refl (l .loop .inv .1) (rw (← (l .before .occupied .ensures)) (c .slot-meets .ensures)))
 
 returns-2 : tie.Need-returns-2 Inv-loop μ-loop
 returns-2 c =

@@ -11,7 +11,7 @@ use Rattle.lists.proofs.Below.{every-none, every-turn}
 use Rattle.lists.proofs.Pairs.{meet-below-right}
 use Rattle.table.specs.Total.{totalOf}
 use Rattle.table.specs.Lists.{customerAt, customerFour, heldIn, heldAt, standaloneAt}
-use Rattle.table.specs.Rules.{sameLsp}
+use Rattle.table.specs.Rules.{sameConnection}
 use Rattle.table.specs.Words.{tableOf}
 use Rattle.rule_standalone.proofs.Meets.{meet-right}
 use Rattle.rule_standalone.proofs.calls_meet_none.Statement.{statement}
@@ -19,7 +19,7 @@ use Rattle.rule_standalone.proofs.calls_meet_none.Tie as tie
 
 abbrev Inv-loop : tie.InvT-loop
 Inv-loop t listed apart₀ k₀ apart k =
-    (k ≤ 8) × (apart ≡ everyBelow (λ k. not (meet sameLsp (below (heldAt (tableOf t)) (totalOf (tableOf t))) (standaloneAt (tableOf t) k))) k)
+    (k ≤ 8) × (apart ≡ everyBelow (λ k. not (meet sameConnection (below (heldAt (tableOf t)) (totalOf (tableOf t))) (standaloneAt (tableOf t) k))) k)
 
 abbrev μ-loop : tie.MeasureT-loop
 μ-loop t listed apart₀ k₀ apart k = 8 - k
@@ -45,15 +45,15 @@ loop-again c =
     let t = tableOf (l .before .before .args .t .now) in
     let calls = below (heldAt t) (totalOf t) in
     let k = l .loop .k in
-    let s : c .calls-meet-record .result ≡ meet sameLsp calls (standaloneAt t k) =
-    rw (meet-right sameLsp (ltb k (t .listed)) calls (heldIn (customerFour (customerAt t k))), ← (l .before .listed .ensures)) (c .calls-meet-record .ensures) in
+    let s : c .calls-meet-record .result ≡ meet sameConnection calls (standaloneAt t k) =
+    rw (meet-right sameConnection (ltb k (t .listed)) calls (heldIn (customerFour (customerAt t k))), ← (l .before .listed .ensures)) (c .calls-meet-record .ensures) in
     (omega arith, every-turn _ _ _ _ (l .loop .inv .1) (ap not s))
 
 returns : tie.Need-returns Inv-loop μ-loop
 returns c =
     let t = tableOf (c .before .before .before .args .t .now) in
     let e : c .before .loop .k ≡ 8 = omega arith in
-    rw e at (c .before .loop .inv .1) ∙ sym (meet-below-right sameLsp (below (heldAt t) (totalOf t)) (standaloneAt t) 8)
+    rw e at (c .before .loop .inv .1) ∙ sym (meet-below-right sameConnection (below (heldAt t) (totalOf t)) (standaloneAt t) 8)
 
 pub calls-meet-none-spec : {M : Type 1} → statement M
 calls-meet-none-spec =

@@ -6,7 +6,7 @@ use Rattle.lists.specs.Below.{below}
 use Rattle.lists.specs.Pairs.{meet}
 use Rattle.table.specs.Total.{totalOf}
 use Rattle.table.specs.Lists.{heldAt}
-use Rattle.table.specs.Rules.{sameLsp}
+use Rattle.table.specs.Rules.{sameConnection}
 use Rattle.table.specs.Words.{tableOf}
 use Rattle.table_words.proofs.Alike.{alike-held}
 use Rattle.rule_standalone.proofs.calls_meet_record.Statement.{statement}
@@ -23,7 +23,7 @@ returns c =
     let b = c .before .before in
     let t = tableOf (b .before .args .t .now) in
     rw (lt-ltb _ _ (b .if1 .taken))
-    (c .calls-meet .ensures ∙ ap (λ k. meet sameLsp (below (heldAt t) (totalOf t)) k) (alike-held _ _ (c .before .customer-four .ensures .0)))
+    (c .calls-meet .ensures ∙ ap (λ k. meet sameConnection (below (heldAt t) (totalOf t)) k) (alike-held _ _ (c .before .customer-four .ensures .0)))
 
 returns-2 : tie.Need-returns-2
 returns-2 c = rw (le-ltb _ _ (c .if1 .left))

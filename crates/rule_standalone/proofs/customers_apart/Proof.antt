@@ -12,17 +12,17 @@ use Rattle.lists.proofs.Below.{every-none}
 use Rattle.lists.proofs.Pairs.{pairs-none, outer-turn-both, no-two-lists}
 use Rattle.table.specs.Table.{Table}
 use Rattle.table.specs.Lists.{customerAt, customerFour, heldIn}
-use Rattle.table.specs.Rules.{sameLsp}
+use Rattle.table.specs.Rules.{sameConnection}
 use Rattle.table.specs.Words.{tableOf}
 use Rattle.rule_standalone.proofs.customers_apart.Statement.{statement}
 use Rattle.rule_standalone.proofs.customers_apart.Tie as tie
 
 -- two records, the later one first, do not hold the same connection; a record does not hold one twice
 abbrev apartAt : Table → ℕ → ℕ → ℕ → Bool
-apartAt t listed i j = not (ltb j listed && (ltb i listed && meet sameLsp (heldIn (customerFour (customerAt t j))) (heldIn (customerFour (customerAt t i)))))
+apartAt t listed i j = not (ltb j listed && (ltb i listed && meet sameConnection (heldIn (customerFour (customerAt t j))) (heldIn (customerFour (customerAt t i)))))
 
 abbrev onceAt : Table → ℕ → ℕ → Bool
-onceAt t listed i = not (ltb i listed) || noTwo sameLsp (heldIn (customerFour (customerAt t i)))
+onceAt t listed i = not (ltb i listed) || noTwo sameConnection (heldIn (customerFour (customerAt t i)))
 
 abbrev Inv-loop : tie.InvT-loop
 Inv-loop t listed apart₀ i₀ apart i = (i ≤ 8) × (apart ≡ (pairsBelow (apartAt (tableOf t) listed) i && everyBelow (onceAt (tableOf t) listed) i))
@@ -61,7 +61,7 @@ returns c =
     let t = tableOf (o .before .args .t .now) in
     let e : c .before .loop .i ≡ 8 = omega arith in
     rw (o .listed .ensures) at (rw e at (c .before .loop .inv .1))
-    ∙ sym (no-two-lists sameLsp (λ (k : ℕ). ltb k (t .listed)) (λ (k : ℕ). heldIn (customerFour (customerAt t k))) 8)
+    ∙ sym (no-two-lists sameConnection (λ (k : ℕ). ltb k (t .listed)) (λ (k : ℕ). heldIn (customerFour (customerAt t k))) 8)
 
 pub customers-apart-spec : {M : Type 1} → statement M
 customers-apart-spec =

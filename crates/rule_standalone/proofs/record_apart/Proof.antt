@@ -10,7 +10,7 @@ use Rattle.lists.specs.Below.{everyBelow}
 use Rattle.lists.specs.Pairs.{meet}
 use Rattle.lists.proofs.Below.{every-none, every-turn}
 use Rattle.table.specs.Lists.{customerAt, customerFour, heldIn}
-use Rattle.table.specs.Rules.{sameLsp}
+use Rattle.table.specs.Rules.{sameConnection}
 use Rattle.table.specs.Words.{tableOf}
 use Rattle.table_words.proofs.Alike.{alike-held}
 use Rattle.rule_standalone.proofs.Meets.{used-apart, unused-apart}
@@ -19,7 +19,7 @@ use Rattle.rule_standalone.proofs.record_apart.Tie as tie
 
 abbrev Inv-loop : tie.InvT-loop
 Inv-loop t listed i g apart₀ j₀ apart j =
-    (j ≤ i) × (apart ≡ everyBelow (λ j. not (ltb j listed && (ltb i listed && meet sameLsp (heldIn (customerFour (customerAt (tableOf t) j))) (heldIn (customerFour (customerAt (tableOf t) i)))))) j)
+    (j ≤ i) × (apart ≡ everyBelow (λ j. not (ltb j listed && (ltb i listed && meet sameConnection (heldIn (customerFour (customerAt (tableOf t) j))) (heldIn (customerFour (customerAt (tableOf t) i)))))) j)
 
 abbrev μ-loop : tie.MeasureT-loop
 μ-loop t listed i g apart₀ j₀ apart j = i - j
@@ -50,7 +50,7 @@ loop-again c =
     let l = c .before .before .before in
     let g = l .before in
     let a = g .before .before .args in
-    let met = c .fours-meet .ensures ∙ ap₂ (λ k l. meet sameLsp k l) (alike-held _ _ (c .before .customer-four2 .ensures .0)) (alike-held _ _ (g .customer-four .ensures .0)) in
+    let met = c .fours-meet .ensures ∙ ap₂ (λ k l. meet sameConnection k l) (alike-held _ _ (c .before .customer-four2 .ensures .0)) (alike-held _ _ (g .customer-four .ensures .0)) in
     (omega arith, every-turn _ _ _ _ (l .loop .inv .1) (used-apart (a .listed) (a .i) (l .loop .j) _ _ (g .before .if1 .left) (c .before .before .loop-test .taken) met))
 
 returns-2 : tie.Need-returns-2 Inv-loop μ-loop

@@ -3,7 +3,7 @@ use mathlib.Core.Path.{ap, _∙_}
 use borrow.Author.Tests.{lt-ltb, le-ltb}
 use borrow.Author.Needs.{needs}
 use Rattle.lists.specs.Count.{noTwo}
-use Rattle.table.specs.Rules.{sameLsp}
+use Rattle.table.specs.Rules.{sameConnection}
 use Rattle.table_words.proofs.Alike.{alike-held}
 use Rattle.rule_standalone.proofs.record_once.Statement.{statement}
 use Rattle.rule_standalone.proofs.record_once.Tie as tie
@@ -15,7 +15,7 @@ four-once-requires : tie.Need-four-once-requires
 four-once-requires c κs = search needs
 
 returns : tie.Need-returns
-returns c = rw (lt-ltb _ _ (c .before .before .if1 .taken)) (c .four-once .ensures ∙ ap (λ l. noTwo sameLsp l) (alike-held _ _ (c .before .customer-four .ensures .0)))
+returns c = rw (lt-ltb _ _ (c .before .before .if1 .taken)) (c .four-once .ensures ∙ ap (λ l. noTwo sameConnection l) (alike-held _ _ (c .before .customer-four .ensures .0)))
 
 returns-2 : tie.Need-returns-2
 returns-2 c = rw (le-ltb _ _ (c .if1 .left))

@@ -3,7 +3,7 @@ use mathlib.Core.Path.{ap, ap₂, _∙_}
 use borrow.Author.Needs.{needs}
 use Rattle.lists.specs.Pairs.{meet}
 use Rattle.table.specs.Lists.{heldIn}
-use Rattle.table.specs.Rules.{sameLsp}
+use Rattle.table.specs.Rules.{sameConnection}
 use Rattle.table_words.specs.Fours.{fourAtWord}
 use Rattle.table_words.specs.declared.fours.FourPlace.{FourPlace}
 use Rattle.table_words.proofs.Alike.{alike-held}
@@ -24,7 +24,7 @@ returns c =
     let a = b .before .before .args in
     let t = a .t .now in
     rw (← (b .before .is-used .ensures), b .if1 .taken)
-    (senders-apart (fourAtWord t (f .call-four .result)) (fourAtWord t (a .g)) (c .if2 .taken) ∙ ap (λ l. meet sameLsp l (heldIn (fourAtWord t (a .g)))) (alike-held _ _ (f .call-four .ensures .0)))
+    (senders-apart (fourAtWord t (f .call-four .result)) (fourAtWord t (a .g)) (c .if2 .taken) ∙ ap (λ l. meet sameConnection l (heldIn (fourAtWord t (a .g)))) (alike-held _ _ (f .call-four .ensures .0)))
 
 anew-requires : tie.Need-anew-requires
 anew-requires c κs = search needs
@@ -45,8 +45,8 @@ returns-2 c =
     let a = b .before .before .args in
     let t = a .t .now in
     rw (← (b .before .is-used .ensures), b .if1 .taken)
-    (c .fours-meet .ensures ∙ ap₂ (λ (x y : FourPlace). meet sameLsp (heldIn (fourAtWord t x)) (heldIn (fourAtWord t y))) (n .anew .ensures) (c .before .anew2 .ensures)
-    ∙ ap (λ l. meet sameLsp l (heldIn (fourAtWord t (a .g)))) (alike-held _ _ (f .call-four .ensures .0)))
+    (c .fours-meet .ensures ∙ ap₂ (λ (x y : FourPlace). meet sameConnection (heldIn (fourAtWord t x)) (heldIn (fourAtWord t y))) (n .anew .ensures) (c .before .anew2 .ensures)
+    ∙ ap (λ l. meet sameConnection l (heldIn (fourAtWord t (a .g)))) (alike-held _ _ (f .call-four .ensures .0)))
 
 returns-3 : tie.Need-returns-3
 returns-3 c = rw (← (c .before .is-used .ensures), c .if1 .left)

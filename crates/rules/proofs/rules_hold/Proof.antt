@@ -3,7 +3,7 @@
 use mathlib.Core.Bool.{Bool, true, false, not, _&&_, and-comm}
 use mathlib.Core.Path.{_≡_, refl}
 use borrow.Author.Needs.{needs}
-use Rattle.table.specs.Rules.{sameLsp, holds, rosterAcceptable, sendersListed, withinLimits, shareWithinTotal, shortIdsOnce, longIdsOnce, namesAndIds, freeHoldsZeros, rulesHold}
+use Rattle.table.specs.Rules.{sameConnection, holds, rosterAcceptable, sendersListed, withinLimits, shareWithinTotal, shortIdsOnce, longIdsOnce, namesAndIds, freeHoldsZeros, rulesHold}
 use Rattle.table.specs.Lists.{heldAt, standaloneAt}
 use Rattle.table.specs.Words.{tableOf}
 use Rattle.table.specs.Total.{totalOf}
@@ -49,10 +49,10 @@ returns : tie.Need-returns
 unfolding rulesHold
 returns c =
     let t = tableOf (c .before .before .before .before .before .before .before .args .t .now) in
-    rw (c .before .before .before .before .before .before .roster-holds .ensures, c .before .before .before .before .before .senders-listed .ensures, c .before .before .before .before .shares-hold .ensures, c .before .before .before .calls-apart .ensures, c .before .before .standalone-once .ensures, c .before .names-and-ids .ensures, c .free-holds-zeros .ensures, no-two-append sameLsp (below (heldAt t) (totalOf t)) (below (standaloneAt t) 8))
+    rw (c .before .before .before .before .before .before .roster-holds .ensures, c .before .before .before .before .before .senders-listed .ensures, c .before .before .before .before .shares-hold .ensures, c .before .before .before .calls-apart .ensures, c .before .before .standalone-once .ensures, c .before .names-and-ids .ensures, c .free-holds-zeros .ensures, no-two-append sameConnection (below (heldAt t) (totalOf t)) (below (standaloneAt t) 8))
     (regrouped (holds rosterAcceptable t) (holds sendersListed t) (holds withinLimits t) (holds shareWithinTotal t) (holds shortIdsOnce t) (holds longIdsOnce t)
-    (noTwo sameLsp (below (heldAt t) (totalOf t)))
-    (noTwo sameLsp (below (standaloneAt t) 8) && not (meet sameLsp (below (heldAt t) (totalOf t)) (below (standaloneAt t) 8)))
+    (noTwo sameConnection (below (heldAt t) (totalOf t)))
+    (noTwo sameConnection (below (standaloneAt t) 8) && not (meet sameConnection (below (heldAt t) (totalOf t)) (below (standaloneAt t) 8)))
     (holds namesAndIds t) (holds freeHoldsZeros t))
 
 pub rules-hold-spec : {M : Type 1} → statement M

@@ -5,7 +5,7 @@ use mathlib.Core.Path.{_≡_, sym}
 use mathlib.Core.Bool.{_&&_}
 use lib.Dec.{eqb, ltb}
 use Rattle.lists.specs.Count.{has}
-use Rattle.lists.proofs.Below.{has-when}
+use Rattle.lists.proofs.Below.{has-element}
 use Rattle.table.specs.Lists.{listedAt}
 use Rattle.table.specs.Share.{isAt}
 use Rattle.table.specs.Words.{tableOf}
@@ -51,7 +51,7 @@ loop-again c =
     let m = c .before .before .before .customer-head .ensures .0 in
     let here = ltb k (l .before .listed .result) && eqb (a .address) (c .before .before .before .customer-head .result .address) in
     let e : here ≡ has (isAt (a .address)) (listedAt (tableOf (a .t .now)) k) =
-    rw (m, l .before .listed .ensures) (sym (has-when _ _ _)) in (
+    rw (m, l .before .listed .ensures) (sym (has-element _ _ _)) in (
       omega arith,
       sought-turn _ _ here (i .1) e (c .before .select .ensures) (c .select2 .ensures),
       rw (c .select2 .ensures, c .before .select .ensures) (turn-below (l .loop .known) here (l .loop .at) k 8 (i .2) (omega arith)),

@@ -2,11 +2,11 @@
 use Prim.Native.Nat.{_≤_, _<_, _-_}
 use native.Mathlib.Omega.{arith}
 use mathlib.Core.Path.{_≡_, sym, _∙_}
-use Rattle.lists.proofs.Below.{has-when}
+use Rattle.lists.proofs.Below.{has-element}
 use Rattle.table.specs.Lists.{heldPlace}
-use Rattle.table.specs.Rules.{sameLsp}
+use Rattle.table.specs.Rules.{isLsp}
 use Rattle.table_words.specs.Fours.{fourAtWord}
-use Rattle.spec_calls.specs.PathRules.{heldBy}
+use Rattle.spec_calls.specs.PathRules.{lspOf}
 use Rattle.find_connection.proofs.Rows.{Sought, sought-none, sought-turn}
 use Rattle.update_connection.proofs.Turn.{turn-below}
 use borrow.Author.Needs.{needs}
@@ -14,7 +14,7 @@ use Rattle.update_connection.proofs.place_with.Statement.{statement}
 use Rattle.update_connection.proofs.place_with.Tie as tie
 
 abbrev Inv-loop : tie.InvT-loop
-Inv-loop t f x held₀ at₀ j₀ held at j = (j ≤ 4) × Sought (heldPlace (fourAtWord t f)) (sameLsp (heldBy x)) j held at × (at < 4)
+Inv-loop t f x held₀ at₀ j₀ held at j = (j ≤ 4) × Sought (heldPlace (fourAtWord t f)) (isLsp (lspOf x)) j held at × (at < 4)
 
 abbrev μ-loop : tie.MeasureT-loop
 μ-loop t f x held₀ at₀ j₀ held at j = 4 - j
@@ -42,7 +42,7 @@ loop-again c =
     let l = c .before .before .before .before in
     let i = l .loop .inv in (
       omega arith,
-      sought-turn _ _ _ (i .1) (c .before .before .holds-at .ensures ∙ sym (has-when _ _ _)) (c .before .select .ensures) (c .select2 .ensures),
+      sought-turn _ _ _ (i .1) (c .before .before .holds-at .ensures ∙ sym (has-element _ _ _)) (c .before .select .ensures) (c .select2 .ensures),
       rw (c .select2 .ensures, c .before .select .ensures) (turn-below (l .loop .held) (c .before .before .holds-at .result) (l .loop .at) (l .loop .j) 4 (i .2) (omega arith)),
     )
 

@@ -2,7 +2,7 @@
 use Prim.Native.Nat.{_+_, _*_, _≤_, _-_}
 use native.Mathlib.Omega.{arith}
 use mathlib.Core.Path.{_≡_, sym, ap, _∙_}
-use Rattle.lists.specs.Count.{bit, count}
+use Rattle.lists.specs.Count.{bit, countIf}
 use Rattle.lists.proofs.Below.{count-none}
 use Rattle.table.specs.Lists.{idsOf}
 use Rattle.spec_changes.specs.Connections.{isUnder}
@@ -13,7 +13,7 @@ use Rattle.checkpoint_choice.proofs.naming.named_by.Statement.{statemen
 use Rattle.checkpoint_choice.proofs.naming.named_by.Tie as tie
 
 abbrev Inv-loop : tie.InvT-loop
-Inv-loop s calls connections i at short endpoint sender base n₀ k₀ n k = (k ≤ connections) × (n ≤ k) × (n ≡ count (isUnder (idsOf (callRecord s i .call))) (recordsFrom s base k))
+Inv-loop s calls connections i at short endpoint sender base n₀ k₀ n k = (k ≤ connections) × (n ≤ k) × (n ≡ countIf (isUnder (idsOf (callRecord s i .call))) (recordsFrom s base k))
 
 abbrev μ-loop : tie.MeasureT-loop
 μ-loop s calls connections i at short endpoint sender base n₀ k₀ n k = connections - k

@@ -49,7 +49,7 @@ loop-again c =
     let l = r .before .before in
     let z = l .before .before in
     let a = z .args in
-    (omega arith, connections-turn (tableOf (a .t .now)) (a .s .now) (a .calls) (a .connections) (l .loop .k) (tableOf (l .loop .t)) _ (heldBy (r .connection-record .result)) (z .pre) (l .loop .inv .1) (r .connection-record .ensures) (c .with-connection .ensures))
+    (omega arith, connections-turn (tableOf (a .t .now)) (a .s .now) (a .calls) (a .connections) (l .loop .k) (tableOf (l .loop .t)) _ (heldBy (r .connection-record .result)) (z .pre) (l .loop .inv .1) (r .connection-record .ensures .0) (c .with-connection .ensures))
 
 returns : tie.Need-returns Inv-loop μ-loop
 returns c =

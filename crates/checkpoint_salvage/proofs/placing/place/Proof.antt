@@ -9,8 +9,8 @@ use Rattle.checkpoint_salvage.proofs.placing.place.Tie as tie
 occupied-requires : tie.Need-occupied-requires
 occupied-requires c κs = search needs
 
-flip-requires : tie.Need-flip-requires
-flip-requires c κs = search needs
+with-used-requires : tie.Need-with-used-requires
+with-used-requires c κs = search needs
 
 record-words-requires : tie.Need-record-words-requires
 record-words-requires c κs = search needs
@@ -27,14 +27,14 @@ returns c =
     let w = p .before .before .before in
     let o = w .before .before in
     let z = o .before .before .before in
-    placed-by (tableOf (z .args .t .now)) _ _ (callRecord (z .args .s .now) (z .args .i)) _ _ _ _ (z .pre .1) (o .occupied .ensures) (w .before .flip .ensures) (w .record-words .ensures) (p .put-slot .ensures) (c .set-occupied .ensures)
+    placed-by (tableOf (z .args .t .now)) _ _ (callRecord (z .args .s .now) (z .args .i)) _ _ _ _ (z .pre .1) (o .occupied .ensures) (w .before .with-used .ensures) (w .record-words .ensures) (p .put-slot .ensures) (c .set-occupied .ensures)
 
 pub place-spec : {M : Type 1} → statement M
 place-spec =
     tie.close
     (tie.spec
     occupied-requires
-    flip-requires
+    with-used-requires
     record-words-requires
     put-slot-requires
     set-occupied-requires

@@ -2,7 +2,7 @@
 use Prim.Native.Nat.{_≤_, _-_}
 use native.Mathlib.Omega.{arith}
 use mathlib.Core.Path.{_≡_, refl, sym, _∙_}
-use Rattle.lists.specs.Count.{count}
+use Rattle.lists.specs.Count.{countIf}
 use Rattle.lists.specs.Below.{below}
 use Rattle.lists.proofs.Below.{count-none, count-turn}
 use Rattle.table.specs.Lists.{openAt}
@@ -13,7 +13,7 @@ use Rattle.find_call.proofs.share.calls_of.Statement.{statement}
 use Rattle.find_call.proofs.share.calls_of.Tie as tie
 
 abbrev Inv-loop : tie.InvT-loop
-Inv-loop t address word n₀ i₀ n i = (i ≤ 64) × (n ≤ i) × (n ≡ count (from address) (below (openAt (tableOf t)) i))
+Inv-loop t address word n₀ i₀ n i = (i ≤ 64) × (n ≤ i) × (n ≡ countIf (from address) (below (openAt (tableOf t)) i))
 
 abbrev μ-loop : tie.MeasureT-loop
 μ-loop t address word n₀ i₀ n i = 64 - i

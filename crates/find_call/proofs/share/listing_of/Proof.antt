@@ -7,7 +7,7 @@ use lib.Dec.{eqb, ltb}
 use Rattle.lists.specs.Below.{below}
 use Rattle.lists.proofs.Below.{has-none, has-turn, first-none, first-turn}
 use Rattle.table.specs.Lists.{termsOf, customerAt, listedAt}
-use Rattle.table.specs.Share.{isAt, listed, guaranteeOf, limitOf}
+use Rattle.table.specs.Share.{isAt, isListed, guaranteeOf, limitOf}
 use Rattle.table.specs.Words.{tableOf}
 use borrow.Author.Needs.{needs}
 use Rattle.find_call.proofs.share.listing_of.Statement.{statement}
@@ -16,7 +16,7 @@ use Rattle.find_call.proofs.share.listing_of.Tie as tie
 abbrev Inv-loop : tie.InvT-loop
 Inv-loop t address n known₀ guarantee₀ limit₀ k₀ known guarantee limit k =
     (k ≤ 8)
-    × (known ≡ listed (below (listedAt (tableOf t)) k) address)
+    × (known ≡ isListed (below (listedAt (tableOf t)) k) address)
     × (guarantee ≡ guaranteeOf (below (listedAt (tableOf t)) k) address)
     × (limit ≡ limitOf (below (listedAt (tableOf t)) k) address)
 

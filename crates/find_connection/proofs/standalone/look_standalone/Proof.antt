@@ -14,11 +14,11 @@ use Rattle.find_connection.proofs.standalone.look_standalone.Statement.
 use Rattle.find_connection.proofs.standalone.look_standalone.Tie as tie
 
 abbrev Inv-loop : tie.InvT-loop
-Inv-loop t x n other₀ held₀ at₀ four₀ k₀ other held at four k =
-    (k ≤ 8) × (four ≤ 4 * k) × Looked (standaloneAt (tableOf t)) (heldBy x) k other held at four
+Inv-loop t x n other₀ held₀ four₀ k₀ other held four k =
+    (k ≤ 8) × (four ≤ 4 * k) × Looked (standaloneAt (tableOf t)) (heldBy x) k other held four
 
 abbrev μ-loop : tie.MeasureT-loop
-μ-loop t x n other₀ held₀ at₀ four₀ k₀ other held at four k = 8 - k
+μ-loop t x n other₀ held₀ four₀ k₀ other held four k = 8 - k
 
 listed-requires : tie.Need-listed-requires Inv-loop μ-loop
 listed-requires c κs = search needs
@@ -32,12 +32,6 @@ customer-four-requires c κs = search needs
 match-four-requires : tie.Need-match-four-requires Inv-loop μ-loop
 match-four-requires c κs = search needs
 
-select-requires : tie.Need-select-requires Inv-loop μ-loop
-select-requires c κs = search needs
-
-select-requires-2 : tie.Need-select-requires-2 Inv-loop μ-loop
-select-requires-2 c κs = search needs
-
 add-four : tie.Need-add-four Inv-loop μ-loop
 add-four c = search needs
 
@@ -49,14 +43,13 @@ loop-less c = search needs
 
 loop-again : tie.Need-loop-again Inv-loop μ-loop
 loop-again c =
-    let at = c .before .before .before in
-    let m = at .before .before in
+    let m = c .before .before .before in
     let l = m .before .before .before in
     let t = tableOf (l .before .before .args .t .now) in
     let k = l .loop .k in
     let four = customerFour (customerAt t k) in
     let e = rw (l .before .listed .ensures, alike-held _ four (m .before .customer-four .ensures .0)) at (m .match-four .ensures) in
-    (omega arith, omega (arith, e .3), looked-turn _ _ (ltb k (t .listed)) (heldIn four) refl (l .loop .inv .2) e (at .before .select .ensures) (at .select2 .ensures))
+    (omega arith, omega (arith, e .3), looked-turn _ _ (ltb k (t .listed)) (heldIn four) refl (l .loop .inv .2) e)
 
 returns : tie.Need-returns Inv-loop μ-loop
 unfolding standaloneLookOf
@@ -64,7 +57,7 @@ returns c =
     let l = c .before in
     let e : l .loop .k ≡ 8 = omega arith in
     let k = rw e at (l .loop .inv .2) in
-    rw (k .other, k .held .has, k .held .place, k .four)
+    rw (k .other, k .held, k .four)
 
 pub look-standalone-spec : {M : Type 1} → statement M
 look-standalone-spec =
@@ -76,8 +69,6 @@ look-standalone-spec =
     loop-holds
     customer-four-requires
     match-four-requires
-    select-requires
-    select-requires-2
     add-four
     add-k
     loop-less

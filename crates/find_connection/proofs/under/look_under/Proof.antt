@@ -3,7 +3,7 @@ use Prim.Native.Nat.{_≤_, _-_, _*_}
 use native.Mathlib.Omega.{arith}
 use mathlib.Core.Path.{_≡_, refl, sym, ap₂, _∙_}
 use mathlib.Core.Bool.{Bool, _&&_}
-use Rattle.lists.proofs.Below.{has-when}
+use Rattle.lists.proofs.Below.{has-element}
 use Rattle.table.specs.Total.{total}
 use Rattle.table.specs.Word.{isUsed}
 use Rattle.table.specs.Lists.{openAt, callAt, callFour, heldIn, heldAt}
@@ -18,12 +18,12 @@ use Rattle.find_connection.proofs.under.look_under.Statement.{statement
 use Rattle.find_connection.proofs.under.look_under.Tie as tie
 
 abbrev Inv-loop : tie.InvT-loop
-Inv-loop t x word other₀ held₀ at₀ four₀ known₀ slot₀ i₀ other held at four known slot i =
-    (i ≤ total) × (four ≤ 4 * i) × Looked (heldAt (tableOf t)) (heldBy x) i other held at four
+Inv-loop t x word other₀ held₀ four₀ known₀ slot₀ i₀ other held four known slot i =
+    (i ≤ total) × (four ≤ 4 * i) × Looked (heldAt (tableOf t)) (heldBy x) i other held four
     × Sought (openAt (tableOf t)) (isCallOf (heldBy x)) i known slot
 
 abbrev μ-loop : tie.MeasureT-loop
-μ-loop t x word other₀ held₀ at₀ four₀ known₀ slot₀ i₀ other held at four known slot i = total - i
+μ-loop t x word other₀ held₀ four₀ known₀ slot₀ i₀ other held four known slot i = total - i
 
 occupied-requires : tie.Need-occupied-requires Inv-loop μ-loop
 occupied-requires c κs = search needs
@@ -40,20 +40,14 @@ call-four-requires c κs = search needs
 match-four-requires : tie.Need-match-four-requires Inv-loop μ-loop
 match-four-requires c κs = search needs
 
-is-call-of-requires : tie.Need-is-call-of-requires Inv-loop μ-loop
-is-call-of-requires c κs = search needs
+is-named-requires : tie.Need-is-named-requires Inv-loop μ-loop
+is-named-requires c κs = search needs
 
 select-requires : tie.Need-select-requires Inv-loop μ-loop
 select-requires c κs = search needs
 
 select-requires-2 : tie.Need-select-requires-2 Inv-loop μ-loop
 select-requires-2 c κs = search needs
-
-select-requires-3 : tie.Need-select-requires-3 Inv-loop μ-loop
-select-requires-3 c κs = search needs
-
-select-requires-4 : tie.Need-select-requires-4 Inv-loop μ-loop
-select-requires-4 c κs = search needs
 
 add-four : tie.Need-add-four Inv-loop μ-loop
 add-four c = search needs
@@ -67,19 +61,19 @@ loop-less c = search needs
 loop-again : tie.Need-loop-again Inv-loop μ-loop
 loop-again c =
     let slot = c .before .before .before in
-    let at = slot .before .before in
-    let m = at .before .before .before in
+    let named = slot .before .before in
+    let m = named .before in
     let l = m .before .before .before .before in
     let t = tableOf (l .before .before .args .t .now) in
     let i = l .loop .i in
     let used = rw (l .before .occupied .ensures) at (m .before .before .is-used .ensures) in
     let four = callFour (callAt t i) in
     let e = rw (used, alike-held _ four (m .before .call-four .ensures .0)) at (m .match-four .ensures) in
-    let here = ap₂ (λ (a b : Bool). a && b) used (at .before .before .is-call-of .ensures) in (
+    let here = ap₂ (λ (a b : Bool). a && b) used (named .is-named .ensures) in (
       omega arith,
       omega (arith, e .3),
-      looked-turn _ _ (isUsed (t .occupied) i) (heldIn four) refl (l .loop .inv .2) e (at .before .select .ensures) (at .select2 .ensures),
-      sought-turn _ _ _ (l .loop .inv .3) (here ∙ sym (has-when _ _ _)) (slot .before .select3 .ensures) (slot .select4 .ensures),
+      looked-turn _ _ (isUsed (t .occupied) i) (heldIn four) refl (l .loop .inv .2) e,
+      sought-turn _ _ _ (l .loop .inv .3) (here ∙ sym (has-element _ _ _)) (slot .before .select .ensures) (slot .select2 .ensures),
     )
 
 returns : tie.Need-returns Inv-loop μ-loop
@@ -89,7 +83,7 @@ returns c =
     let e : l .loop .i ≡ total = omega arith in
     let k = rw e at (l .loop .inv .2) in
     let known = rw e at (l .loop .inv .3) in
-    rw (k .other, k .held .has, k .held .place, k .four, known .has, known .place)
+    rw (k .other, k .held, k .four, known .has, known .place)
 
 pub look-under-spec : {M : Type 1} → statement M
 look-under-spec =
@@ -102,11 +96,9 @@ look-under-spec =
     is-used-requires
     call-four-requires
     match-four-requires
-    is-call-of-requires
+    is-named-requires
     select-requires
     select-requires-2
-    select-requires-3
-    select-requires-4
     add-four
     add-i
     loop-less

@@ -2,7 +2,7 @@
 use mathlib.Core.Path.{sym, ap, _∙_}
 use Rattle.messages.proofs.Inside.{read-inside}
 use Rattle.table.specs.Lists.{roster}
-use Rattle.table.specs.Share.{listed}
+use Rattle.table.specs.Share.{isListed}
 use Rattle.table.specs.Words.{tableOf}
 use Rattle.answers.specs.declared.answer.Answer.the-variants.{BufferTooSmall, Malformed, SenderNotListed}
 use Rattle.outcomes.proofs.Handled.{handled-faulty, handled-sound, form-small, form-refused, form-unfit, form-unfit-unlisted, form-sound, form-unlisted}
@@ -65,7 +65,7 @@ handle-message-requires c κs =
     let t = tableOf (s .args .t .now) in
     let k = c .before .before .before in
     let e = sym (c .before .before .before .before .before .before .before .before .before .read .ensures) ∙ c .before .before .before .before .before .before .before .x3 .given .1 in
-    (s .pre, sym (k .listing-of2 .ensures .0 ∙ ap (listed (roster t)) (k .before .sender-of .ensures)) ∙ c .before .before .if3 .taken, read-inside _ _ _ e, search needs)
+    (s .pre, sym (k .listing-of2 .ensures .0 ∙ ap (isListed (roster t)) (k .before .sender-of .ensures)) ∙ c .before .before .if3 .taken, read-inside _ _ _ e, search needs)
 
 same-length : tie.Need-same-length
 same-length c = search needs
@@ -78,7 +78,7 @@ returns-3 c =
     let e = sym (c .before .before .before .before .before .before .before .before .before .before .before .before .read .ensures) ∙ c .before .before .before .before .before .before .before .before .before .before .x3 .given .1 in
     c .before .before .handle-message .ensures
     ∙ sym (handled-sound t _ _ _ (s .pre)
-    (form-sound _ _ _ (search needs) _ _ e (sym (k .listing-of2 .ensures .0 ∙ ap (listed (roster t)) (k .before .sender-of .ensures)) ∙ c .before .before .before .before .before .if3 .taken)))
+    (form-sound _ _ _ (search needs) _ _ e (sym (k .listing-of2 .ensures .0 ∙ ap (isListed (roster t)) (k .before .sender-of .ensures)) ∙ c .before .before .before .before .before .if3 .taken)))
 
 unanswered-requires-5 : tie.Need-unanswered-requires-5
 unanswered-requires-5 c κs = search needs
@@ -106,7 +106,7 @@ returns-6 c =
     left-quiet t _ SenderNotListed _ (c .unanswered5 .ensures)
     ∙ sym (handled-faulty t _ _ SenderNotListed (s .pre)
     (form-unlisted _ _ _ (search needs) _ _ (sym (c .before .before .before .before .before .before .before .before .read .ensures) ∙ c .before .before .before .before .before .before .x3 .given .1)
-    (sym (k .listing-of2 .ensures .0 ∙ ap (listed (roster t)) (k .before .sender-of .ensures)) ∙ c .before .if3 .left)))
+    (sym (k .listing-of2 .ensures .0 ∙ ap (isListed (roster t)) (k .before .sender-of .ensures)) ∙ c .before .if3 .left)))
 
 pub handle-checked-spec : {M : Type 1} → statement M
 handle-checked-spec =

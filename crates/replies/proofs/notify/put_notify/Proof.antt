@@ -3,7 +3,7 @@ use native.Mathlib.Omega.{arith}
 use borrow.Author.Needs.{needs}
 use Rattle.replies.specs.Messages.{notifyBytes}
 use Rattle.replies.proofs.Lengths.{notify-length}
-use Rattle.replies.proofs.Filled.{checksum-written}
+use Rattle.replies.proofs.Filled.{notify-field-free, checksum-written}
 use Rattle.replies.proofs.notify.put_notify.Statement.{statement}
 use Rattle.replies.proofs.notify.put_notify.Tie as tie
 
@@ -11,7 +11,7 @@ put-notify-before-checksum-requires : tie.Need-put-notify-before-checksum-requir
 put-notify-before-checksum-requires c κs = search needs
 
 fill-checksum-requires : tie.Need-fill-checksum-requires
-fill-checksum-requires c κs = search needs
+fill-checksum-requires c κs = (search needs, search needs, search needs, notify-field-free _ _ _ _ (c .before .before .before .put-notify-before-checksum .ensures .1))
 
 same-length : tie.Need-same-length
 same-length c = search needs

@@ -3,7 +3,7 @@ use native.Mathlib.Omega.{arith}
 use borrow.Author.Needs.{needs}
 use Rattle.replies.specs.Messages.{pathErrBytes}
 use Rattle.replies.proofs.Lengths.{path-err-length}
-use Rattle.replies.proofs.Filled.{checksum-written}
+use Rattle.replies.proofs.Filled.{path-err-field-free, checksum-written}
 use Rattle.replies.proofs.path_err.put_path_err.Statement.{statement}
 use Rattle.replies.proofs.path_err.put_path_err.Tie as tie
 
@@ -11,7 +11,7 @@ put-path-err-before-checksum-requires : tie.Need-put-path-err-before-checksum-re
 put-path-err-before-checksum-requires c κs = search needs
 
 fill-checksum-requires : tie.Need-fill-checksum-requires
-fill-checksum-requires c κs = search needs
+fill-checksum-requires c κs = (search needs, search needs, search needs, path-err-field-free _ _ _ _ (c .before .before .before .put-path-err-before-checksum .ensures .1))
 
 same-length : tie.Need-same-length
 same-length c = search needs

@@ -2,7 +2,7 @@
 use mathlib.Core.Path.{sym, ap, _∙_}
 use borrow.Author.Needs.{needs}
 use Rattle.lists.specs.Count.{noTwo}
-use Rattle.table.specs.Rules.{sameLsp}
+use Rattle.table.specs.Rules.{sameConnection}
 use Rattle.table.specs.Words.{tableOf}
 use Rattle.table_words.proofs.Alike.{alike-held}
 use Rattle.rule_uniqueness.proofs.Near.{slot-free, slot-far, slot-near}
@@ -32,7 +32,7 @@ returns c =
     let z = b .before .before .args in
     let t = tableOf (z .t .now) in
     let used = sym (b .before .is-used .ensures) ∙ b .if1 .taken in
-    let once = f .four-once .ensures ∙ ap (λ l. noTwo sameLsp l) (alike-held _ _ (f .before .call-four .ensures .0)) in
+    let once = f .four-once .ensures ∙ ap (λ l. noTwo sameConnection l) (alike-held _ _ (f .before .call-four .ensures .0)) in
     (rw used (n .note-call .ensures .0), slot-near (z .word) t (z .i) _ used once _ (c .apart-from-earlier .ensures))
 
 returns-2 : tie.Need-returns-2
@@ -44,7 +44,7 @@ returns-2 c =
     let z = s .args in
     let t = tableOf (z .t .now) in
     let used = sym (b .before .is-used .ensures) ∙ b .if1 .taken in
-    let once = f .four-once .ensures ∙ ap (λ l. noTwo sameLsp l) (alike-held _ _ (f .before .call-four .ensures .0)) in
+    let once = f .four-once .ensures ∙ ap (λ l. noTwo sameConnection l) (alike-held _ _ (f .before .call-four .ensures .0)) in
     (rw used (n .note-call .ensures .0), slot-far (z .word) t (z .i) _ used once (z .seen .now) (s .pre .1) (n .note-call .ensures .1 (c .if2 .left)))
 
 returns-3 : tie.Need-returns-3

@@ -4,7 +4,7 @@ use mathlib.Core.Path.{ap₂, _∙_}
 use borrow.Author.Needs.{needs}
 use Rattle.lists.specs.Pairs.{meet}
 use Rattle.table.specs.Lists.{callAt, callFour}
-use Rattle.table.specs.Rules.{sameLsp}
+use Rattle.table.specs.Rules.{sameConnection}
 use Rattle.table.specs.Words.{tableOf}
 use Rattle.table_words.proofs.Alike.{alike-held}
 use Rattle.rule_uniqueness.proofs.Conflicts.{two-pairs, one-pair}
@@ -31,6 +31,9 @@ returns-2 c =
     let t = tableOf (z .t .now) in
     two-pairs (callAt t (z .j)) (callAt t (z .i)) _ _ (h .before .call-head .ensures) (h .call-head2 .ensures) (λ e f. c .if2 .taken f)
 
+same-call-requires : tie.Need-same-call-requires
+same-call-requires c κs = search needs
+
 same-name-requires : tie.Need-same-name-requires
 same-name-requires c κs = search needs
 
@@ -38,7 +41,7 @@ call-four-requires : tie.Need-call-four-requires
 call-four-requires c κs = search needs
 
 call-four-requires-2 : tie.Need-call-four-requires-2
-call-four-requires-2 c κs = c .before .before .before .before .before .before .before .before .before .before .before .before .pre .1
+call-four-requires-2 c κs = c .before .before .before .before .before .before .before .before .before .before .before .pre .1
 
 fours-meet-requires : tie.Need-fours-meet-requires
 fours-meet-requires c κs = search needs
@@ -46,15 +49,16 @@ fours-meet-requires c κs = search needs
 returns-3 : tie.Need-returns-3
 returns-3 c =
     let n = c .before .before .before in
-    let s = n .before .before .before in
+    let a = n .before in
+    let s = a .before in
     let e = s .before .before .before in
     let h = e .before .before .before in
     let z = h .before .before .args in
     let t = tableOf (z .t .now) in
     let x = callAt t (z .j) in
     let y = callAt t (z .i) in
-    one-pair x y _ _ (h .before .call-head .ensures) (h .call-head2 .ensures) _ _ (e .if1 .left) (s .if2 .left) (n .same-name .ensures)
-    (c .fours-meet .ensures ∙ ap₂ (λ k l. meet sameLsp k l) (alike-held _ (callFour x) (c .before .before .call-four .ensures .0)) (alike-held _ (callFour y) (c .before .call-four2 .ensures .0)))
+    one-pair x y _ _ (h .before .call-head .ensures) (h .call-head2 .ensures) _ _ _ (e .if1 .left) (s .if2 .left) (a .same-call .ensures) (n .same-name .ensures)
+    (c .fours-meet .ensures ∙ ap₂ (λ k l. meet sameConnection k l) (alike-held _ (callFour x) (c .before .before .call-four .ensures .0)) (alike-held _ (callFour y) (c .before .call-four2 .ensures .0)))
 
 pub in-conflict-spec : {M : Type 1} → statement M
 in-conflict-spec =
@@ -64,6 +68,7 @@ in-conflict-spec =
     call-head-requires-2
     returns
     returns-2
+    same-call-requires
     same-name-requires
     call-four-requires
     call-four-requires-2

@@ -1,20 +1,37 @@
 -- `slots::open_slot` meets its contract.
+use mathlib.Core.Path.{_∙_}
+use Rattle.table.specs.Word.{withUsed}
+use Rattle.table.specs.Words.{tableOf}
 use Rattle.spec_changes.specs.Calls.{opened}
 use borrow.Author.Needs.{needs}
+use Rattle.update_call.proofs.Turned.{turned}
 use Rattle.update_call.proofs.slots.open_slot.Statement.{statement}
 use Rattle.update_call.proofs.slots.open_slot.Tie as tie
 
 new-call-requires : tie.Need-new-call-requires
 new-call-requires c κs = search needs
 
-turn-slot-requires : tie.Need-turn-slot-requires
-turn-slot-requires c κs = search needs
+put-slot-requires : tie.Need-put-slot-requires
+put-slot-requires c κs = search needs
+
+occupied-requires : tie.Need-occupied-requires
+occupied-requires c κs = search needs
+
+with-used-requires : tie.Need-with-used-requires
+with-used-requires c κs = search needs
+
+set-occupied-requires : tie.Need-set-occupied-requires
+set-occupied-requires c κs = search needs
 
 returns : tie.Need-returns
 unfolding opened
 returns c =
-    let n = c .before .before .before in
-    rw (c .turn-slot .ensures, n .new-call .ensures, n .before .before .pre .2)
+    let p = c .before .before .before in
+    let n = p .before .before .before in
+    let o = n .before in
+    let z = o .before .before .before in
+    turned withUsed (tableOf (z .args .t .now)) _ _ _ _ _ _ _ (o .occupied .ensures) (c .before .with-used .ensures) (n .new-call .ensures) (p .put-slot .ensures) (c .set-occupied .ensures)
+    ∙ rw (z .pre .2)
 
 pub open-slot-spec : {M : Type 1} → statement M
-open-slot-spec = tie.close (tie.spec new-call-requires turn-slot-requires returns)
+open-slot-spec = tie.close (tie.spec occupied-requires new-call-requires put-slot-requires with-used-requires set-occupied-requires returns)

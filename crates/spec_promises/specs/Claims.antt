@@ -1,0 +1,142 @@
+-- What the node promises, by name: the statements behind the auditor's questions (docs/ARCHITECTURE.md). Each is proved
+-- in proofs/ under the same name, written with hyphens. The node that each rules out is named beside it.
+use Prim.Native.Nat.{ℕ, _<_}
+use mathlib.Core.Path.{_≡_}
+use mathlib.Core.List.{List, []}
+use mathlib.Core.Bool.{Bool, true, false}
+use lib.ListN.{length, take, drop}
+use Rattle.numbers.specs.BigEndian.{Bytes}
+use Rattle.numbers.specs.Checksum.{wordsSum}
+use Rattle.lists.specs.Count.{countIf, has}
+use Rattle.messages.specs.declared.message.CallRequest.{CallRequest}
+use Rattle.messages.specs.declared.message.Message.the-variants.{Open}
+use Rattle.table.specs.Table.{Table}
+use Rattle.table.specs.Total.{total, totalOf}
+use Rattle.table.specs.Lists.{roster, Ids, Entry, entries, Held, held}
+use Rattle.table.specs.Rules.{rulesHold}
+use Rattle.table.specs.Roster.{rosterNumber, customersIn, recordsIn, rosterAnswer, tableFor}
+use Rattle.spec_changes.specs.Connections.{callMissing, isUnder}
+use Rattle.answers.specs.Answers.{answerNumber, is, sendsNotify}
+use Rattle.spec_calls.specs.Form.{sound, formOf}
+use Rattle.spec_calls.specs.CallRules.{idsIn, isOpen}
+use Rattle.spec_calls.specs.Handling.{handled, replyAfter, answerOf}
+use Rattle.spec_promises.specs.Ledger.{Fed, ledger}
+use Rattle.spec_promises.specs.Connections.{connectionsAfter, isHeld, isTornDown, isSetUp}
+use Rattle.spec_promises.specs.Promises.{Input, fed, tableThen, AtEveryStep, Promised, Agrees, Unchanged, Cause}
+
+-- ---- the runs that claims are about
+
+-- from the table of every byte string that the roster reader answers 0, over every list of messages and reply buffers
+abbrev pub FromEveryRoster : (List ℕ → Table → List Fed → Input → Type 0) → Type 0
+FromEveryRoster P = (s : List ℕ) → Bytes s → rosterNumber (rosterAnswer s) ≡ 0 → (xs : List Input) → AtEveryStep (P s) (tableFor (rosterAnswer s) s) [] xs
+
+-- from any table that agrees with a ledger's entries at the start
+abbrev pub FromEveryAgreement : (Table → List Entry → Table → List Fed → Input → Type 0) → Type 0
+FromEveryAgreement P = (t : Table) (start : List Entry) → Agrees t start → (xs : List Input) → AtEveryStep (P t start) t [] xs
+
+-- one message, from any table that agrees with a ledger; such a table stands at every step (`AgreesThroughout`)
+abbrev pub AtOneMessage : (Table → List Entry → Input → Type 0) → Type 0
+AtOneMessage P = (t : Table) (l : List Entry) → Agrees t l → (x : Input) → P t l x
+
+-- ---- demand 3
+
+-- the ledger's promises (01, The ledger behind demand 3); `Promised` has them one by one
+abbrev pub Demand3 : Type 0
+Demand3 = FromEveryRoster (λ s. Promised total (recordsIn s (customersIn s)) [])
+
+abbrev pub Demand3From : Type 0
+Demand3From = FromEveryAgreement (λ t start. Promised (totalOf t) (roster t) start)
+
+-- what is claimed of one message from a table that agrees holds all along a run
+abbrev pub AgreesThroughout : Type 0
+AgreesThroughout = FromEveryRoster (λ s t h x. Agrees t (ledger total [] h))
+
+abbrev pub AgreesFrom : Type 0
+AgreesFrom = FromEveryAgreement (λ first start t h x. Agrees t (ledger total start h))
+
+-- the table rules hold after every message: a node that keeps two calls of one ID, or a connection twice, is none
+abbrev pub RulesAfter : Type 0
+RulesAfter = AtOneMessage (λ t l x. rulesHold (tableThen t x) ≡ true)
+
+-- ---- which call a lit path belongs to
+
+-- a connection is held after the next message as before, under the same Call ID, unless it is the one that a PathTear
+-- answered 25 names: no close, no retry and no refusal loses it or moves it to another call
+abbrev pub ConnectionStays : Type 0
+ConnectionStays = AtOneMessage (λ t l x. (y : Held) → isHeld t y ≡ true → isTornDown (fed t x) y ≡ false → isHeld (tableThen t x) y ≡ true)
+
+-- a connection that a PathTear answered 25 names is held no longer, under any Call ID: a node that answers 25 and keeps
+-- it is none
+abbrev pub ConnectionGoes : Type 0
+ConnectionGoes = AtOneMessage (λ t l x. (y : Held) → isTornDown (fed t x) y ≡ true → isHeld (tableThen t x) y ≡ false)
+
+-- what is held and was not before is the connection that a Path answered 23 names, with its Call ID: a node that lights
+-- a path under another call is none
+abbrev pub ConnectionComes : Type 0
+ConnectionComes = AtOneMessage (λ t l x. (y : Held) → isHeld t y ≡ false → isHeld (tableThen t x) y ≡ true → isSetUp (fed t x) y ≡ true)
+
+-- over whole lists: the connections held are those that were added, each under the Call ID that its Path had, until the
+-- 25 that removes it
+abbrev pub ConnectionsThroughout : Type 0
+ConnectionsThroughout = FromEveryRoster (λ s t h x. (p : Held → Bool) → countIf p (held t) ≡ countIf p (connectionsAfter [] h))
+
+abbrev pub ConnectionsFrom : Type 0
+ConnectionsFrom = FromEveryAgreement (λ first start t h x. (p : Held → Bool) → countIf p (held t) ≡ countIf p (connectionsAfter (held first) h))
+
+-- no table holds a connection with a Call ID, 0 excepted, whose pair has no open call of that ID. This holds of every
+-- table, by its layout alone: what stands under a call has no Call ID of its own. What a node could break is above
+abbrev pub ConnectionHasCall : Type 0
+ConnectionHasCall = (t : Table) → has (callMissing (entries t)) (held t) ≡ false
+
+-- a call with connections is open after the next message, whatever it says, and its connections stay under it, but for
+-- the one that a PathTear answered 25 names
+abbrev pub BusyCallStays : Type 0
+BusyCallStays = AtOneMessage (λ t l x. (c : Ids) → isOpen (entries t) c ≡ true → has (isUnder c) (held t) ≡ true
+    → (isOpen (entries (tableThen t x)) c ≡ true)
+    × ((y : Held) → isUnder c y ≡ true → isHeld t y ≡ true → isTornDown (fed t x) y ≡ false → isHeld (tableThen t x) y ≡ true))
+
+-- ---- retries and refusals
+
+-- a setup that repeats an open call is answered 21, and calls and connections are as they were: no second copy
+abbrev pub RetryIs21 : Type 0
+RetryIs21 = AtOneMessage (λ t l x. (q : CallRequest) → formOf (roster t) (x .message) (length (x .buffer)) ≡ sound (Open q)
+    → isOpen l (idsIn (x .message) q) ≡ true → (answerNumber (fed t x .answer) ≡ 21) × Unchanged t (tableThen t x))
+
+-- a setup that is refused had to be: each refusal has its cause in the ledger (01, Every answer)
+abbrev pub SetupCause : Type 0
+SetupCause = AtOneMessage (λ t l x. (q : CallRequest) → formOf (roster t) (x .message) (length (x .buffer)) ≡ sound (Open q)
+    → Cause (totalOf t) (roster t) l (idsIn (x .message) q) (answerNumber (fed t x .answer)))
+
+-- any table, any message: only 20, 22, 23 and 25 change calls or connections
+abbrev pub RefusedUnchanged : Type 0
+RefusedUnchanged = (t : Table) (x : Input)
+    → is 20 (fed t x .answer) ≡ false → is 22 (fed t x .answer) ≡ false → is 23 (fed t x .answer) ≡ false → is 25 (fed t x .answer) ≡ false
+    → Unchanged t (tableThen t x)
+
+-- any table, any message: where no Notify is sent, the whole table is as it was, the next own identifier too, but for
+-- 23 and 25
+abbrev pub QuietUnchanged : Type 0
+QuietUnchanged = (t : Table) (x : Input)
+    → sendsNotify (fed t x .answer) ≡ false → is 23 (fed t x .answer) ≡ false → is 25 (fed t x .answer) ≡ false → tableThen t x ≡ t
+
+-- ---- the reply buffer
+
+-- the buffer afterwards: the whole reply, and behind it the old bytes
+pub record InFront (reply before after : List ℕ) : Type 0 where
+  pub front : take (length reply) after ≡ reply
+  pub behind : drop (length reply) after ≡ drop (length reply) before
+  pub long : length after ≡ length before
+
+-- any table, message and buffer: the buffer holds the complete reply in front and its old bytes behind it, and where no
+-- reply is sent exactly its old bytes
+pub record BufferHolds (t : Table) (s buffer : List ℕ) : Type 0 where
+  pub reply : InFront (replyAfter t s (length buffer) (answerOf t s (length buffer))) buffer (handled t s buffer .buffer)
+  pub none : handled t s buffer .length ≡ 0 → handled t s buffer .buffer ≡ buffer
+
+abbrev pub BufferAfter : Type 0
+BufferAfter = (t : Table) (s buffer : List ℕ) → BufferHolds t s buffer
+
+-- 01, Message layout: the words of every reply add up to FFFF. Every table that words are has numbers of 32 bits
+abbrev pub ReplyAddsUp : Type 0
+ReplyAddsUp = (t : Table) (s buffer : List ℕ) → Bytes s → t .address < 0x100000000 → t .next < 0x100000000 → 0 < handled t s buffer .length
+    → wordsSum (take (handled t s buffer .length) (handled t s buffer .buffer)) ≡ 65535

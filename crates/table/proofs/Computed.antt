@@ -1,0 +1,116 @@
+-- Rows that the checker computes, with numbers written out by hand: rosters from 01 (The roster), the layout of the words
+-- from include/chaffmoor.h, and which calls and connections are the same (01, Message layout and Every answer).
+-- Assumes nothing.
+use Prim.Native.Nat.{ℕ}
+use mathlib.Core.Path.{_≡_, refl}
+use mathlib.Core.List.{List, [], _∷_, _++_, map}
+use mathlib.Core.Bool.{Bool, true, false}
+use Rattle.lists.specs.Below.{below}
+use Rattle.table.specs.Table.{Call, Customer}
+use Rattle.table.specs.Lists.{Ids, Lsp}
+use Rattle.table.specs.Rules.{badShare, sameBytes, sameShort, sameLong, sameLsp}
+use Rattle.table.specs.Roster.{rosterNumber, badForm, recordsAnswer, rosterAnswer, customersFrom, freshTable}
+use Rattle.table.specs.Words.{customerStart, callStart, callAtWord, customerAtWord, tableOf}
+
+-- ---- rosters
+
+-- a form byte, own address 10.0.0.2 and own epoch 7; then the records
+abbrev rosterWith : ℕ → List ℕ → List ℕ
+rosterWith form records = (form ∷ 0x0a ∷ 0x00 ∷ 0x00 ∷ 0x02 ∷ 0x00 ∷ 0x00 ∷ 0x07 ∷ []) ++ records
+
+-- the customer 10.0.0.d, and the two bytes of its guarantee, limit and spare bits
+abbrev customer : ℕ → ℕ → ℕ → List ℕ
+customer d high low = 0x0a ∷ 0x00 ∷ 0x00 ∷ d ∷ high ∷ low ∷ []
+
+abbrev answered : List ℕ → ℕ
+answered s = rosterNumber (rosterAnswer s)
+
+-- accepted, with guarantee 1 and limit 2; the low, the high spare bit set; limit 0, limit 65, guarantee 3 over limit 2; an
+-- address twice; guarantees of 64 and of 65 in all
+pub rosters : map answered
+    (rosterWith 0x11 (customer 1 0x02 0x08)
+    ∷ rosterWith 0x11 (customer 1 0x02 0x09) ∷ rosterWith 0x11 (customer 1 0x02 0x0a)
+    ∷ rosterWith 0x11 (customer 1 0x00 0x00) ∷ rosterWith 0x11 (customer 1 0x03 0x04) ∷ rosterWith 0x11 (customer 1 0x06 0x08)
+    ∷ rosterWith 0x12 (customer 1 0x02 0x08 ++ customer 1 0x02 0x08)
+    ∷ rosterWith 0x12 (customer 1 0x7d 0x00 ++ customer 3 0x05 0x00) ∷ rosterWith 0x12 (customer 1 0x7d 0x00 ++ customer 3 0x07 0x00) ∷ [])
+    ≡ 0 ∷ 43 ∷ 43 ∷ 44 ∷ 44 ∷ 44 ∷ 45 ∷ 0 ∷ 46 ∷ []
+unfolding rosterAnswer badForm recordsAnswer badShare below
+rosters = refl
+
+-- ---- calls and connections: the same, then one thing different in each
+
+abbrev idsWith : ℕ → ℕ → ℕ → List ℕ → Ids
+idsWith endpoint sender short long = record { endpoint = endpoint; sender = sender; short = short; long = long }
+
+abbrev first : Ids
+first = idsWith 1 2 3 (4 ∷ 5 ∷ [])
+
+-- the end point, the sender, the short ID
+pub short-ids : map (sameShort first) (first ∷ idsWith 9 2 3 (4 ∷ 5 ∷ []) ∷ idsWith 1 9 3 (4 ∷ 5 ∷ []) ∷ idsWith 1 2 9 (4 ∷ 5 ∷ []) ∷ [])
+    ≡ true ∷ false ∷ false ∷ false ∷ []
+unfolding sameShort
+short-ids = refl
+
+-- the end point, the sender, the long ID's last byte, its length; the short ID is no part of it
+pub long-ids : map (sameLong first)
+    (first ∷ idsWith 9 2 3 (4 ∷ 5 ∷ []) ∷ idsWith 1 9 3 (4 ∷ 5 ∷ []) ∷ idsWith 1 2 3 (4 ∷ 9 ∷ []) ∷ idsWith 1 2 3 (4 ∷ []) ∷ idsWith 1 2 9 (4 ∷ 5 ∷ []) ∷ [])
+    ≡ true ∷ false ∷ false ∷ false ∷ false ∷ true ∷ []
+unfolding sameLong sameBytes
+long-ids = refl
+
+abbrev lspWith : ℕ → ℕ → ℕ → ℕ → ℕ → Lsp
+lspWith endpoint tunnel extended sender lspId = record { endpoint = endpoint; tunnel = tunnel; extended = extended; sender = sender; lspId = lspId }
+
+-- end point, Tunnel ID, extended tunnel ID, sender, LSP ID
+pub connections : map (sameLsp (lspWith 1 2 3 4 5))
+    (lspWith 1 2 3 4 5 ∷ lspWith 9 2 3 4 5 ∷ lspWith 1 9 3 4 5 ∷ lspWith 1 2 9 4 5 ∷ lspWith 1 2 3 9 5 ∷ lspWith 1 2 3 4 9 ∷ [])
+    ≡ true ∷ false ∷ false ∷ false ∷ false ∷ false ∷ []
+unfolding sameLsp
+connections = refl
+
+-- ---- words
+
+-- the head: slots 0 and 33 are used
+abbrev head : List ℕ
+head = 10 ∷ 11 ∷ 12 ∷ 13 ∷ 1 ∷ 2 ∷ []
+
+pub head-words : tableOf head .address ∷ tableOf head .epoch ∷ tableOf head .next ∷ tableOf head .listed ∷ tableOf head .occupied ∷ []
+    ≡ 10 ∷ 11 ∷ 12 ∷ 13 ∷ 0x200000001 ∷ []
+head-words = refl
+
+pub starts : customerStart 0 ∷ customerStart 1 ∷ customerStart 7 ∷ callStart 0 ∷ callStart 1 ∷ callStart 63 ∷ []
+    ≡ 6 ∷ 29 ∷ 167 ∷ 190 ∷ 222 ∷ 2206 ∷ []
+starts = refl
+
+-- each word is the number of its place; but for word 8, which has four bytes of its own, the low one 41
+abbrev counted : List ℕ
+counted =
+    0 ∷ 1 ∷ 2 ∷ 3 ∷ 4 ∷ 5 ∷ 6 ∷ 7 ∷ 0x44434241 ∷ 9 ∷ 10 ∷ 11 ∷ 12 ∷ 13 ∷ 14 ∷ 15
+    ∷ 16 ∷ 17 ∷ 18 ∷ 19 ∷ 20 ∷ 21 ∷ 22 ∷ 23 ∷ 24 ∷ 25 ∷ 26 ∷ 27 ∷ 28 ∷ 29 ∷ 30 ∷ 31 ∷ []
+
+pub call-words : callAtWord counted 0 ≡ record {
+  endpoint = 0;
+  sender = 1;
+  refreshed = 2;
+  epoch = 3;
+  identifier = 4;
+  id = 5;
+  made = 6;
+  size = 7;
+  name = 0x41 ∷ 0x42 ∷ 0x43 ∷ 0x44 ∷ 9 ∷ 0 ∷ 0 ∷ 0 ∷ 10 ∷ 0 ∷ 0 ∷ 0 ∷ 11 ∷ 0 ∷ 0 ∷ 0 ∷ 12 ∷ 0 ∷ 0 ∷ 0 ∷ 13 ∷ 0 ∷ 0 ∷ 0 ∷ 14 ∷ 0 ∷ 0 ∷ 0 ∷ 15 ∷ 0 ∷ 0 ∷ 0 ∷ [];
+  places = record { taken = 16; tunnel = 17; extended = 18; lsp = 19 } ∷ record { taken = 20; tunnel = 21; extended = 22; lsp = 23 }
+      ∷ record { taken = 24; tunnel = 25; extended = 26; lsp = 27 } ∷ record { taken = 28; tunnel = 29; extended = 30; lsp = 31 } ∷ [];
+}
+unfolding below
+call-words = refl
+
+pub customer-words : customerAtWord counted 0 ≡ record {
+  address = 0;
+  guarantee = 1;
+  limit = 2;
+  endpoints = 3 ∷ 4 ∷ 5 ∷ 6 ∷ [];
+  places = record { taken = 7; tunnel = 0x44434241; extended = 9; lsp = 10 } ∷ record { taken = 11; tunnel = 12; extended = 13; lsp = 14 }
+      ∷ record { taken = 15; tunnel = 16; extended = 17; lsp = 18 } ∷ record { taken = 19; tunnel = 20; extended = 21; lsp = 22 } ∷ [];
+}
+unfolding below
+customer-words = refl

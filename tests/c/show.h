@@ -1,0 +1,61 @@
+/* What the programs of this folder print of bytes and of a table: every field by its name. */
+#ifndef SHOW_H
+#define SHOW_H
+
+#include "chaffmoor.h"
+
+#include <stdio.h>
+
+/* In hex, a space before every four, and the line's end. */
+static void show_bytes(const uint8_t *bytes, size_t length)
+{
+    for (size_t k = 0; k < length; k++)
+        printf("%s%02x", k % 4 ? "" : " ", bytes[k]);
+    printf("\n");
+}
+
+/* The used slots, one bit each. */
+static unsigned long long slots(const chaffmoor_table *table)
+{
+    return (unsigned long long)table->occupied[1] << 32 | table->occupied[0];
+}
+
+static void show_place(const char *of, uint32_t endpoint, const chaffmoor_place *place)
+{
+    printf("  connection of the %s: taken %u, end point %08x, tunnel %u, extended %u, lsp %u\n", of,
+           (unsigned)place->taken, (unsigned)endpoint, (unsigned)place->tunnel, (unsigned)place->extended,
+           (unsigned)place->lsp);
+}
+
+static void show_customer(const chaffmoor_customer *customer)
+{
+    printf("customer %08x: guarantee %u, limit %u\n", (unsigned)customer->address, (unsigned)customer->guarantee,
+           (unsigned)customer->limit);
+    for (int j = 0; j < CHAFFMOOR_PLACES; j++)
+        if (customer->places[j].taken)
+            show_place("customer", customer->endpoints[j], &customer->places[j]);
+}
+
+static void show_call(int slot, const chaffmoor_call *call)
+{
+    printf("call in slot %d: end point %08x, sender %08x, id %u, size %u, name '%.*s', zeros %u %u %u %u\n", slot,
+           (unsigned)call->endpoint, (unsigned)call->sender, (unsigned)call->id, (unsigned)call->size, (int)call->size,
+           (const char *)call->name, (unsigned)call->refreshed, (unsigned)call->epoch, (unsigned)call->identifier,
+           (unsigned)call->made);
+    for (int j = 0; j < CHAFFMOOR_PLACES; j++)
+        if (call->places[j].taken)
+            show_place("call", call->endpoint, &call->places[j]);
+}
+
+static void show_table(const chaffmoor_table *table)
+{
+    printf("table: address %08x, epoch %u, next %u, listed %u, slots used %llx\n", (unsigned)table->address,
+           (unsigned)table->epoch, (unsigned)table->next, (unsigned)table->listed, slots(table));
+    for (unsigned k = 0; k < table->listed; k++)
+        show_customer(&table->customers[k]);
+    for (int i = 0; i < CHAFFMOOR_CALLS; i++)
+        if (slots(table) >> i & 1)
+            show_call(i, &table->calls[i]);
+}
+
+#endif
