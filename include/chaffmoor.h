@@ -45,8 +45,9 @@ typedef struct {
     uint32_t lsp;              /* 0 to 65,535 */
 } chaffmoor_place;
 
-/* A call; all zeros in a free slot. Its long Call ID is the first `size` bytes of `name`, zeros behind them. `made`,
- * `refreshed`, `epoch` and `identifier` are for later requests: a table rule holds them at zero. */
+/* A call; all zeros in a free slot. Its long Call ID is the first `size` bytes of `name`, the last of them not zero;
+ * zeros behind them. `made`, `refreshed`, `epoch` and `identifier` are for later requests: a table rule holds them at
+ * zero. */
 typedef struct {
     uint32_t endpoint;
     uint32_t sender;

@@ -1,6 +1,8 @@
 //! Situations that the streams have to come into, each at least as often as each answer.
 
 use crate::both::Done;
+use crate::build::D;
+use crate::form::long_id;
 use crate::ledger::Seen;
 use crate::rosters::Shape;
 use crate::source::Made;
@@ -30,7 +32,17 @@ pub const SITUATIONS: &[&str] = &[
     "buffer of 128: reply",
     "name of 32 bytes opened",
     "name of 33 bytes: 13",
-    "20 next to the same name with a zero byte more or less",
+    "name padded to 33 bytes: 13",
+    "open, name of zeros only: 13",
+    "close, name of zeros only: 13",
+    "name padded to 32 bytes opened",
+    "21 under another padding than the open's",
+    "22 under another padding than the open's",
+    "32 under another padding than the open's",
+    "31 by another padding, under another short ID",
+    "21 or 31 next to the same name with a zero byte more or less",
+    "20 next to a name that a zero byte inside tells apart",
+    "30 next to a name that a zero byte inside tells apart",
     "20 with the IDs of a call of the swapped pair",
     "20 with the IDs of a call of another pair",
     "20 into a slot below a used one",
@@ -61,12 +73,16 @@ pub struct Step<'a> {
 pub fn note(step: &Step, tally: &mut Tally) {
     if let Some((seen, calls)) = step.seen {
         setup(step, seen, calls, tally);
+        if let Some((opened, now)) = seen.sizes {
+            padding(step.done.answer, opened, now, tally);
+        }
     }
     limits(step, tally);
     if step.made.whole {
         match step.done.answer {
             20 => opened(step, tally),
-            13 if step.made.fields.name.len() == 33 => tally.situation("name of 33 bytes: 13"),
+            13 if step.made.fields.call != 0 => unnamed(step, tally),
+            30 if zero_tells_apart(step) => tally.situation("30 next to a name that a zero byte inside tells apart"),
             14 | 24 | 25 => held(step, tally),
             23 => added(step, tally),
             37 if step.made.fields.call == 0 => tally.situation("37 of Call ID 0"),
@@ -105,6 +121,55 @@ fn setup(step: &Step, seen: Seen, calls: usize, tally: &mut Tally) {
     }
 }
 
+/// A Notify whose long ID is open: the Name Length of the open, and this one's.
+fn padding(answer: u8, opened: usize, now: usize, tally: &mut Tally) {
+    if opened == now {
+        return;
+    }
+    match answer {
+        21 => tally.situation("21 under another padding than the open's"),
+        22 => tally.situation("22 under another padding than the open's"),
+        32 => tally.situation("32 under another padding than the open's"),
+        31 => tally.situation("31 by another padding, under another short ID"),
+        _ => {}
+    }
+    if (answer == 21 || answer == 31) && opened.abs_diff(now) == 1 {
+        tally.situation("21 or 31 next to the same name with a zero byte more or less");
+    }
+}
+
+/// 13 for the name alone.
+fn unnamed(step: &Step, tally: &mut Tally) {
+    let fields = &step.made.fields;
+    let (size, long) = (fields.name.len(), long_id(&fields.name).len());
+    match (size, long) {
+        (1..=32, 0) if fields.status & D == 0 => tally.situation("open, name of zeros only: 13"),
+        (1..=32, 0) => tally.situation("close, name of zeros only: 13"),
+        (33, 33) => tally.situation("name of 33 bytes: 13"),
+        (33, 1..) => tally.situation("name padded to 33 bytes: 13"),
+        _ => {}
+    }
+}
+
+/// Whether the pair has a call, under the same short ID for a 30, whose name is another for a zero inside only: a
+/// program that ends names at their first zero, or leaves zeros out wherever they stand, takes the two for one.
+fn zero_tells_apart(step: &Step) -> bool {
+    let fields = &step.made.fields;
+    let name = long_id(&fields.name);
+    fn cut(name: &[u8]) -> impl Iterator<Item = &u8> {
+        name.iter().take_while(|&&byte| byte != 0)
+    }
+    fn left(name: &[u8]) -> impl Iterator<Item = &u8> {
+        name.iter().filter(|&&byte| byte != 0)
+    }
+    tables::calls(step.before).any(|call| {
+        let other = tables::name(call);
+        let in_pair = (call.endpoint, call.sender) == (fields.endpoint, fields.sender);
+        let asked = step.done.answer == 20 || call.id == fields.call.into();
+        in_pair && asked && other != name && (cut(other).eq(cut(name)) || left(other).eq(left(name)))
+    })
+}
+
 /// Sizes, buffers, identifiers.
 fn limits(step: &Step, tally: &mut Tally) {
     let (answer, size) = (step.done.answer, step.made.bytes.len());
@@ -116,6 +181,10 @@ fn limits(step: &Step, tally: &mut Tally) {
     }
     if step.done.length > 0 && step.done.reply()[2..4] == [0xff; 2] {
         tally.situation("checksum FFFF for zero, sent");
+    }
+    if step.made.whole && matches!(answer, 20..=22 | 30..=34) {
+        let name = &step.made.fields.name;
+        tally.padding(name.len() - long_id(name).len());
     }
     match (size, answer) {
         (1024, 14..) => tally.situation("1,024 bytes read"),
@@ -134,15 +203,14 @@ fn limits(step: &Step, tally: &mut Tally) {
 
 fn opened(step: &Step, tally: &mut Tally) {
     let fields = &step.made.fields;
-    let (name, pair) = (&fields.name[..], (fields.endpoint, fields.sender));
-    if name.len() == 32 {
-        tally.situation("name of 32 bytes opened");
+    let (name, pair) = (long_id(&fields.name), (fields.endpoint, fields.sender));
+    match (fields.name.len(), name.len()) {
+        (_, 32) => tally.situation("name of 32 bytes opened"),
+        (32, _) => tally.situation("name padded to 32 bytes opened"),
+        _ => {}
     }
-    let mut calls = tables::calls(step.before);
-    let bare = |name: &[u8]| name.iter().rposition(|&byte| byte != 0).map_or(0, |at| at + 1);
-    let alike = |other: &[u8]| bare(other) == bare(name) && other[..bare(other)] == name[..bare(name)];
-    if calls.any(|call| (call.endpoint, call.sender) == pair && alike(tables::name(call))) {
-        tally.situation("20 next to the same name with a zero byte more or less");
+    if zero_tells_apart(step) {
+        tally.situation("20 next to a name that a zero byte inside tells apart");
     }
     if tables::in_use(step.before, (pair.1, pair.0), fields.call, name) == (true, true) {
         tally.situation("20 with the IDs of a call of the swapped pair");

@@ -122,7 +122,7 @@ fn lengthen(objects: &mut Vec<Vec<u8>>, random: &mut Random) {
 /// One to three faults in what a Notify says, or a sender that is not listed: answers 11 to 13, and their order.
 pub fn add_faults(fields: &mut Fields, values: &Values, random: &mut Random) {
     for _ in 0..*random.pick(&[1, 1, 1, 2, 3]) {
-        match random.below(8) {
+        match random.below(11) {
             0 => fields.status &= !R,
             1 => fields.status &= !C,
             2 => fields.code = 1 << random.below(8),
@@ -133,6 +133,14 @@ pub fn add_faults(fields: &mut Fields, values: &Values, random: &mut Random) {
                 let far = random.between(41, 255);
                 let size = *random.pick(&[33, 33, 33, 33, 34, 36, 40, far]);
                 fields.name = random.bytes(size);
+            }
+            7 | 8 => {
+                let any = random.between(1, 32);
+                fields.name = vec![0; *random.pick(&[1, 2, 3, 4, 31, 32, any])];
+            }
+            9 => {
+                fields.name.truncate(32);
+                fields.name.resize(33, 0);
             }
             _ => fields.sender = *random.pick(&values.unlisted),
         }

@@ -1,4 +1,4 @@
-//! The ledger's own reader (01, "Every answer"): the tests for the answers 2 to 13, on the message's bytes, the
+//! The ledger's own reader (01, "Every answer", and 02's A1): the tests for the answers 2 to 13, on the message's bytes, the
 //! buffer's length and the roster's addresses; and a roster's answer. It is a third reading, used by neither program.
 
 /// What a message is to the ledger.
@@ -18,7 +18,10 @@ pub struct Request<'a> {
     pub endpoint: u32,
     pub sender: u32,
     pub short: u16,
+    /// The name up to its last byte that is not zero (A1).
     pub long: &'a [u8],
+    /// Name Length as received, counted padding included.
+    pub size: usize,
     pub closes: bool,
 }
 
@@ -141,16 +144,27 @@ fn request<'a>(bodies: &[&'a [u8]; 6], sender: u32) -> Result<Request<'a>, u8> {
     }
     let (session, attribute) = (bodies[SESSION], bodies[SESSION_ATTRIBUTE]);
     let (short, size) = (half(session, 4), usize::from(attribute[3]));
-    if short == 0 || size == 0 || size > 32 {
+    let long = long_id(&attribute[4..4 + size]);
+    if short == 0 || size > 32 || long.is_empty() {
         return Err(13);
     }
     Ok(Request {
         endpoint: word(session, 0),
         sender,
         short,
-        long: &attribute[4..4 + size],
+        long,
+        size,
         closes: d == 1,
     })
+}
+
+/// The long Call ID of a name as received (A1): the zeros at its end are taken off.
+pub fn long_id(name: &[u8]) -> &[u8] {
+    let mut long = name;
+    while let [rest @ .., 0] = long {
+        long = rest;
+    }
+    long
 }
 
 /// A roster's answer (01, "The roster").

@@ -16,6 +16,7 @@ pub enum Intent {
     OpenCrossed,
     OpenElsewhere,
     OpenSwapped,
+    OpenZeroInside,
     OpenAny,
     CloseIdle,
     CloseOpen,
@@ -48,6 +49,7 @@ pub const FILL: Mode = &[
     (4, OpenCrossed),
     (4, OpenElsewhere),
     (2, OpenSwapped),
+    (3, OpenZeroInside),
     (4, CloseIdle),
     (8, PathNew),
     (4, PathStandalone),
@@ -62,6 +64,7 @@ pub const CHURN: Mode = &[
     (5, OpenCrossed),
     (4, OpenElsewhere),
     (4, OpenSwapped),
+    (4, OpenZeroInside),
     (4, OpenAny),
     (8, CloseIdle),
     (5, CloseOpen),
@@ -120,14 +123,29 @@ pub fn fields(intent: Intent, values: &Values, table: &Table, random: &mut Rando
         CloseIdle | CloseOpen | CloseCrossed | CloseElsewhere | CloseAny => {
             let mut fields = closing(intent, any, table, random);
             fields.status |= D;
+            pad(&mut fields.name, random);
             (NOTIFY, fields)
         }
         TearHeld | TearBeside | TearAny => (PATH_TEAR, tearing(intent, any, table, random)),
         PathNew | PathHeld | PathMoved | PathUnknown | PathStandalone | PathCrowded | PathBeside | PathAny => {
             (PATH, connecting(intent, any, values, table, random))
         }
-        _ => (NOTIFY, opening(intent, any, values, table, random)),
+        _ => {
+            let mut fields = opening(intent, any, values, table, random);
+            pad(&mut fields.name, random);
+            (NOTIFY, fields)
+        }
     }
+}
+
+/// Padding that is counted in Name Length (A1), two times out of five: up to the next word, to the largest name, or any.
+fn pad(name: &mut Vec<u8>, random: &mut Random) {
+    if random.chance(3, 5) || name.len() >= 32 {
+        return;
+    }
+    let (more, any) = (name.len() + 1, random.between(name.len() + 1, 32));
+    let size = *random.pick(&[more, more.next_multiple_of(4), 32, any, any, any]);
+    name.resize(size, 0);
 }
 
 /// Fields drawn from the stream's few.
@@ -160,6 +178,7 @@ fn opening(intent: Intent, mut fields: Fields, values: &Values, table: &Table, r
         OpenLongUsed => fields.name = tables::name(&call).to_vec(),
         OpenCrossed => cross_ids(&mut fields, &call, table, random),
         OpenSwapped => return swapped(fields, table, random),
+        OpenZeroInside => zero_inside(&mut fields, &call, random),
         OpenElsewhere => {
             take_ids(&mut fields, &call);
             return fields;
@@ -181,6 +200,23 @@ fn swapped(mut fields: Fields, table: &Table, random: &mut Random) -> Fields {
         (fields.endpoint, fields.sender) = (call.sender, call.endpoint);
     }
     fields
+}
+
+/// A name that differs from the call's in a zero byte that is not at its end, under the call's short ID or another.
+fn zero_inside(fields: &mut Fields, call: &Call, random: &mut Random) {
+    let mut name = tables::name(call).to_vec();
+    match name.iter().position(|&byte| byte == 0) {
+        // What stands before the zero, if anything does, or what stands behind it.
+        Some(0) => drop(name.remove(0)),
+        Some(at) if random.chance(1, 2) => name.truncate(at),
+        _ if name.len() > 30 => name[15] = 0,
+        _ if random.chance(1, 2) => name.insert(0, 0),
+        _ => name.extend([0, b'b']),
+    }
+    fields.name = name;
+    if random.chance(1, 2) {
+        fields.call = call.id as u16;
+    }
 }
 
 /// IDs that the pair does not use, if a few draws find them.

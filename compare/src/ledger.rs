@@ -11,12 +11,13 @@ struct Customer {
     closed: usize,
 }
 
-#[derive(PartialEq, Eq)]
 struct Entry {
     endpoint: u32,
     sender: u32,
     short: u16,
     long: Vec<u8>,
+    /// The Name Length that it was opened with: for the situations only, nothing is due by it.
+    size: usize,
 }
 
 pub struct Ledger {
@@ -36,6 +37,8 @@ pub struct Seen {
     pub at_limit: bool,
     /// No room was left.
     pub no_room: bool,
+    /// A Notify of no fault of form whose long ID the pair has open: the Name Lengths of that open and of this one.
+    pub sizes: Option<(usize, usize)>,
 }
 
 const NOTHING: Seen = Seen {
@@ -43,6 +46,7 @@ const NOTHING: Seen = Seen {
     below: false,
     at_limit: false,
     no_room: false,
+    sizes: None,
 };
 
 impl Entry {
@@ -52,7 +56,13 @@ impl Entry {
             sender: request.sender,
             short: request.short,
             long: request.long.to_vec(),
+            size: request.size,
         }
+    }
+
+    /// The call that the request names.
+    fn is_call(&self, request: &Request) -> bool {
+        self.of_pair(request) && self.short == request.short && self.long == request.long
     }
 
     fn of_pair(&self, request: &Request) -> bool {
@@ -77,7 +87,10 @@ impl Ledger {
             return Err("answer 1 to a table that only the program changed".into());
         }
         let form = form::read(message, buffer, &self.addresses);
-        let seen = self.check_setup(&form, answer)?;
+        let mut seen = self.check_setup(&form, answer)?;
+        if let Form::Notify(request) = &form {
+            seen.sizes = self.sizes(request);
+        }
         self.book(&form, answer)?;
         self.check_counts()?;
         Ok(seen)
@@ -98,6 +111,12 @@ impl Ledger {
         }
     }
 
+    fn sizes(&self, request: &Request) -> Option<(usize, usize)> {
+        let is_named = |entry: &&Entry| entry.of_pair(request) && entry.long == request.long;
+        let opened = self.entries.iter().find(is_named)?;
+        Some((opened.size, request.size))
+    }
+
     /// What the ledger as it is makes due to a setup of no fault of form.
     fn due(&self, setup: &Request) -> Seen {
         let customer = self.customers.iter().find(|one| one.address == setup.sender);
@@ -107,7 +126,7 @@ impl Ledger {
         let at_limit = count == customer.limit;
         let no_room = self.taken() == 64;
         let mut of_pair = self.entries.iter().filter(|entry| entry.of_pair(setup));
-        let due = if of_pair.clone().any(|entry| *entry == Entry::of(setup)) {
+        let due = if of_pair.clone().any(|entry| entry.is_call(setup)) {
             21
         } else if of_pair.clone().any(|entry| entry.long == setup.long) {
             31
@@ -123,6 +142,7 @@ impl Ledger {
             below,
             at_limit,
             no_room,
+            sizes: None,
         }
     }
 
@@ -134,15 +154,14 @@ impl Ledger {
         let Form::Notify(request) = form else {
             return Err(format!("answer {answer} to what is no Notify of good form"));
         };
-        let entry = Entry::of(request);
         let customer = self.customers.iter_mut().find(|one| one.address == request.sender);
         let customer = customer.ok_or("a call of a sender that is not listed")?;
         if answer == 20 {
             customer.opened += 1;
-            self.entries.push(entry);
+            self.entries.push(Entry::of(request));
         } else {
             customer.closed += 1;
-            self.entries.retain(|other| *other != entry);
+            self.entries.retain(|entry| !entry.is_call(request));
         }
         Ok(())
     }
@@ -261,6 +280,37 @@ mod tests {
     fn closing_what_is_not_open() {
         assert!(!feeds(&mut two(), &close(9, X, 1, b"a"), 22));
         assert!(feeds(&mut two(), &close(9, X, 1, b"a"), 33));
+    }
+
+    /// A1, by 02's words: zeros at the end are no part of a name, and others are.
+    #[test]
+    fn padding() {
+        let mut ledger = two();
+        assert!(feeds(&mut ledger, &open(9, X, 1, b"a\0\0"), 20));
+        for name in [&b"a"[..], b"a\0", b"a\0\0\0\0"] {
+            assert!(feeds(&mut ledger, &open(9, X, 1, name), 21));
+            assert!(feeds(&mut ledger, &open(9, X, 2, name), 31));
+        }
+        for name in [&b"a\0b"[..], b"\0a"] {
+            assert!(feeds(&mut ledger, &open(9, X, 1, name), 30));
+            assert!(feeds(&mut ledger, &open(9, X, 2, name), 20));
+            assert!(feeds(&mut ledger, &close(9, X, 2, &[name, b"\0"].concat()), 22));
+        }
+        let seen = ledger.feed(&open(9, X, 1, b"a"), 128, 21);
+        assert_eq!(seen.map(|seen| seen.sizes), Ok(Some((3, 1))));
+        assert!(feeds(&mut ledger, &close(9, X, 1, b"a\0"), 22) && ledger.calls() == 0);
+    }
+
+    #[test]
+    fn names_of_zeros_only() {
+        for size in 1..=33 {
+            assert!(feeds(&mut two(), &open(9, X, 1, &vec![0; size]), 13));
+            assert!(feeds(&mut two(), &close(9, X, 1, &vec![0; size]), 13));
+        }
+        let mut name = [0; 33];
+        name[0] = b'a';
+        assert!(feeds(&mut two(), &open(9, X, 1, &name), 13));
+        assert!(feeds(&mut two(), &open(9, X, 1, &name[..32]), 20));
     }
 
     #[test]

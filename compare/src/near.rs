@@ -10,7 +10,8 @@ pub const NEAR_MISSES: &[(&str, Break)] = &[
     ("same IDs at another end point", ids_elsewhere),
     ("same IDs of another sender", ids_of_another),
     ("same IDs with the addresses swapped", ids_swapped),
-    ("names a and a with a zero byte", names_alike),
+    ("names a and a, a zero byte, b", |t, r| names_alike(t, r, b"a\0b")),
+    ("names a and a zero byte, a", |t, r| names_alike(t, r, b"\0a")),
     ("same connection at another end point", connection_elsewhere),
     ("same connection of another sender", connection_of_another),
     (
@@ -38,7 +39,7 @@ pub const NEAR_MISSES: &[(&str, Break)] = &[
     ("calls at the limit", calls_at_limit),
     ("S 64", all_taken),
     ("name of 32 bytes", long_name),
-    ("Call ID 65,535 and name of a zero byte", far_ids),
+    ("Call ID 65,535 and name of zeros and a one", far_ids),
     ("empty table, any next own identifier", empty),
 ];
 
@@ -86,7 +87,7 @@ fn ids_swapped(table: &mut Table, random: &mut Random) -> bool {
     true
 }
 
-fn names_alike(table: &mut Table, random: &mut Random) -> bool {
+fn names_alike(table: &mut Table, random: &mut Random, alike: &[u8]) -> bool {
     let Some((one, other)) = two_of_a_pair(table, random) else {
         return false;
     };
@@ -94,7 +95,7 @@ fn names_alike(table: &mut Table, random: &mut Random) -> bool {
     table.calls[one].endpoint = endpoint;
     table.calls[other].endpoint = endpoint;
     set_name(&mut table.calls[one], b"a");
-    set_name(&mut table.calls[other], b"a\0");
+    set_name(&mut table.calls[other], alike);
     true
 }
 
@@ -261,7 +262,7 @@ fn long_name(table: &mut Table, random: &mut Random) -> bool {
     let Some(slot) = tables::some_used(table, random) else {
         return false;
     };
-    let name = random.bytes(32);
+    let name = random.long_id(32);
     set_name(&mut table.calls[slot], &name);
     true
 }
@@ -273,7 +274,9 @@ fn far_ids(table: &mut Table, random: &mut Random) -> bool {
     let endpoint = fresh_endpoint(table, random);
     let call = &mut table.calls[slot];
     (call.endpoint, call.id) = (endpoint, u16::MAX.into());
-    set_name(call, b"\0");
+    let mut name = vec![0; random.below(32)];
+    name.push(1);
+    set_name(call, &name);
     true
 }
 

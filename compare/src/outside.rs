@@ -50,6 +50,8 @@ pub const REFUSED: &[&str] = &[
     "word: call's short ID 0 or above 65,535",
     "word: call's name size 0 or above 32",
     "word: call's name past its size",
+    "word: call's name size up to a zero byte",
+    "word: call's name with a last byte of zero",
     "word: call's place, taken above 1",
     "word: call's place, taken 0 over a connection",
     "word: call's place, Tunnel ID above 65,535",
@@ -194,10 +196,17 @@ fn due_of_call(table: &Table, slot: usize, of: OfCall, value: u32) -> Due {
         OfCall::Identifier => Refused("word: call's request identifier"),
         OfCall::Made => Refused("word: call's made mark"),
         OfCall::Id => when(value == 0 || value > 65_535, "word: call's short ID 0 or above 65,535"),
-        OfCall::Size => when(value == 0 || value > 32, "word: call's name size 0 or above 32"),
+        OfCall::Size if value == 0 || value > 32 => Refused("word: call's name size 0 or above 32"),
+        OfCall::Size if value > call.size => Refused("word: call's name size up to a zero byte"),
+        OfCall::Size => Refused("word: call's name past its size"),
         OfCall::Name(n) => {
-            let past = |&at: &usize| 4 * n + at >= call.size as usize && value.to_le_bytes()[at] != 0;
-            when((0..4).any(|at| past(&at)), "word: call's name past its size")
+            let (bytes, size) = (value.to_le_bytes(), call.size as usize);
+            let past = |at: usize| 4 * n + at >= size && bytes[at] != 0;
+            let last = |at: usize| 4 * n + at + 1 == size && bytes[at] == 0;
+            match (0..4).any(past) {
+                true => Refused("word: call's name past its size"),
+                false => when((0..4).any(last), "word: call's name with a last byte of zero"),
+            }
         }
         OfCall::Place(n, of) => {
             let reasons = [
@@ -253,6 +262,7 @@ mod tests {
             lsp: 1,
         };
         table.calls[0].size = 5;
+        table.calls[0].name[4] = 1;
         table.calls[0].places[2] = table.customers[0].places[1];
         table.occupied[0] = 1;
         let mut seen: Vec<&str> = Vec::new();

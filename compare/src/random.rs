@@ -81,6 +81,13 @@ impl Random {
         bytes
     }
 
+    /// A long Call ID of this many bytes, at least one: any but that the last is not zero.
+    pub fn long_id(&mut self, size: usize) -> Vec<u8> {
+        let mut name = self.bytes(size);
+        name[size - 1] = self.between(1, 255) as u8;
+        name
+    }
+
     pub fn shuffle<T>(&mut self, items: &mut [T]) {
         for last in (1..items.len()).rev() {
             items.swap(last, self.below(last + 1));

@@ -1,6 +1,7 @@
 //! Plain looks at a table, for the generator and for the functions that break tables.
 
 use crate::build::Connection;
+use crate::form::long_id;
 use crate::random::Random;
 use second::table::{Call, Customer, Place, Table};
 
@@ -163,12 +164,12 @@ pub fn some_held(table: &Table, random: &mut Random) -> Option<Held> {
     (!held.is_empty()).then(|| *random.pick(&held))
 }
 
-/// Whether an open call of the pair has the short ID, and whether one has the name.
+/// Whether an open call of the pair has the short ID, and whether one has the name, whatever its padding.
 pub fn in_use(table: &Table, pair: (u32, u32), id: u16, name: &[u8]) -> (bool, bool) {
     let mut found = (false, false);
     for call in calls(table).filter(|call| (call.endpoint, call.sender) == pair) {
         found.0 |= call.id == u32::from(id);
-        found.1 |= self::name(call) == name;
+        found.1 |= self::name(call) == long_id(name);
     }
     found
 }

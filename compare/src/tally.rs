@@ -22,6 +22,8 @@ pub struct Tally {
     messages: [u64; 256],
     rosters: [u64; 256],
     buffers: [u64; 301],
+    /// Notify replies by how many bytes of the name's length were padding.
+    paddings: [u64; 32],
     intents: BTreeMap<Intent, u64>,
     damages: Counts,
     situations: Counts,
@@ -47,6 +49,7 @@ impl Tally {
             messages: [0; 256],
             rosters: [0; 256],
             buffers: [0; 301],
+            paddings: [0; 32],
             intents: BTreeMap::new(),
             damages,
             situations: zeros(situations),
@@ -66,6 +69,10 @@ impl Tally {
         self.compared += 1;
         self.messages[usize::from(answer)] += 1;
         self.buffers[buffer] += 1;
+    }
+
+    pub fn padding(&mut self, bytes: usize) {
+        self.paddings[bytes] += 1;
     }
 
     pub fn roster(&mut self, answer: u8) {
@@ -121,6 +128,8 @@ impl Tally {
         for (intent, count) in &self.intents {
             println!("{count:>9}  {intent:?}");
         }
+        let least = self.paddings.iter().min().expect("names have a length");
+        println!("replies to names with 0 to 31 bytes of padding: each at least {least} times");
         print_counts("damages", &self.damages);
         print_counts("situations", &self.situations);
         print_counts("tables broken, by rule (answer 1 from both)", &self.breakings);
@@ -159,6 +168,13 @@ impl Tally {
         for (word, &count) in self.words.iter().enumerate() {
             if count < LEAST {
                 lacking.push(format!("word {word}: changed {count} times only"));
+            }
+        }
+        for (bytes, &count) in self.paddings.iter().enumerate() {
+            if count < LEAST {
+                lacking.push(format!(
+                    "reply to a name with {bytes} bytes of padding: came {count} times only"
+                ));
             }
         }
         for (length, &count) in self.buffers.iter().enumerate() {

@@ -9,6 +9,7 @@ pub struct Values {
     pub unlisted: Vec<u32>,
     pub endpoints: Vec<u32>,
     pub ids: Vec<u16>,
+    /// Long Call IDs: no padding.
     pub names: Vec<Vec<u8>>,
     pub tunnels: Vec<u16>,
     pub extended: Vec<u32>,
@@ -69,17 +70,17 @@ fn ids(count: usize, random: &mut Random) -> Vec<u16> {
     ids
 }
 
-/// Names of 1 to 32 bytes: ends of zero bytes, and long ones that differ in the last byte only.
+/// Long Call IDs of 1 to 32 bytes: zeros before the last byte, and long ones that differ in that byte only.
 fn names(count: usize, random: &mut Random) -> Vec<Vec<u8>> {
     let mut long = vec![b'n'; 32];
-    let mut names = vec![b"a".to_vec(), b"a\0".to_vec(), long.clone()];
-    long[31] = 0;
-    names.extend([long, b"\0".to_vec(), b"a\0\0b".to_vec()]);
+    let mut names = vec![b"a".to_vec(), b"a\0b".to_vec(), long.clone()];
+    long[31] = 1;
+    names.extend([long, b"\0a".to_vec(), b"a\0\0b".to_vec()]);
     random.shuffle(&mut names[2..]);
     names.truncate(count);
     while names.len() < count + count / 4 {
         let size = random.between(1, 32);
-        let name = random.bytes(size);
+        let name = random.long_id(size);
         if !names.contains(&name) {
             names.push(name);
         }

@@ -7,6 +7,8 @@ pub struct Objects {
     pub template: usize,
     pub identifier: usize,
     pub attribute: usize,
+    /// Bytes of the long Call ID, in a Notify.
+    pub name: usize,
 }
 
 pub enum Kind {
@@ -75,6 +77,20 @@ static CLASS: [u8; 256] = {
     c
 };
 
+/// Bytes of a name up to its last one that is not zero, four at a time from its end: those behind it are zeros.
+#[inline(always)]
+fn name_length(s: &[u8], at: usize, size: usize) -> usize {
+    let mut n = size.next_multiple_of(4);
+    while n > 0 {
+        let last = be32(s, at + n - 4);
+        if last != 0 {
+            return n - (last.trailing_zeros() / 8) as usize;
+        }
+        n -= 4;
+    }
+    0
+}
+
 #[inline(always)]
 pub fn read(s: &[u8]) -> Read {
     let n = s.len();
@@ -142,11 +158,12 @@ pub fn read(s: &[u8]) -> Read {
             }
         }
     }
-    let o = Objects {
+    let mut o = Objects {
         session,
         template,
         identifier,
         attribute,
+        name: 0,
     };
     if repeated || session == 0 || template == 0 {
         return Read::Fault(10);
@@ -163,7 +180,11 @@ pub fn read(s: &[u8]) -> Read {
         return Read::Unfit(12, sender);
     }
     let size = s[attribute + 7];
-    if be16(s, session + 8) == 0 || size == 0 || size > 32 {
+    if be16(s, session + 8) == 0 || size > 32 {
+        return Read::Unfit(13, sender);
+    }
+    o.name = name_length(s, attribute + 8, usize::from(size));
+    if o.name == 0 {
         return Read::Unfit(13, sender);
     }
     Read::Message(if bits & 1 == 0 { Kind::Open } else { Kind::Close }, o)

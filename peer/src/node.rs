@@ -69,7 +69,7 @@ fn calls_of(table: &Table, pair: u64, mut enough: impl FnMut(usize, &Call) -> bo
 /// The message's long Call ID.
 #[inline(always)]
 fn name<'a>(s: &'a [u8], o: &Objects) -> &'a [u8] {
-    &s[o.attribute + 8..][..usize::from(s[o.attribute + 7])]
+    &s[o.attribute + 8..][..o.name]
 }
 
 #[inline(always)]

@@ -207,6 +207,7 @@ pub fn check(table: &Table) -> Option<Counts> {
             return None;
         }
         bad |= u64::from(call.refreshed | call.epoch | call.identifier | call.made);
+        bad |= u64::from(call.name[size - 1] == 0);
         // SAFETY: all reads lie within the name or, the size being 1 to 32, within PAST.
         let name = unsafe {
             let (name, past) = (call.name.as_ptr(), PAST.as_ptr().add(32 - size));
@@ -357,7 +358,7 @@ mod tests {
         table.occupied = [u32::MAX; 2];
         for (i, call) in table.calls.iter_mut().enumerate() {
             (call.endpoint, call.sender) = (6, 5);
-            (call.id, call.size, call.name[0]) = (1 + i as u32, 1, i as u8);
+            (call.id, call.size, call.name[0]) = (1 + i as u32, 1, 1 + i as u8);
             let base = mix(call.pair() ^ K0, K1);
             for (j, place) in call.places.iter_mut().enumerate() {
                 let hash = 0x155 << 53 | (4 * i + j) as u64;
@@ -382,7 +383,20 @@ mod tests {
         Table::of_mut(&mut broken).calls[63].id = 1;
         assert!(!rules_hold(&broken));
         let mut broken = words;
-        Table::of_mut(&mut broken).calls[63].name[0] = 0;
+        Table::of_mut(&mut broken).calls[63].name[0] = 1;
         assert!(!rules_hold(&broken));
+    }
+
+    #[test]
+    fn names_that_end_in_zero() {
+        for size in 1..=32 {
+            let mut words = all_meet();
+            let call = &mut Table::of_mut(&mut words).calls[9];
+            call.size = size as u32;
+            call.name[..size].fill(b'n');
+            assert!(rules_hold(&words));
+            Table::of_mut(&mut words).calls[9].name[size - 1] = 0;
+            assert!(!rules_hold(&words));
+        }
     }
 }

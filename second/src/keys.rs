@@ -18,7 +18,7 @@ pub struct Connection {
     pub lsp: u16,
 }
 
-/// A long Call ID. The size counts: `a` and `a` with a zero byte behind it are two names.
+/// A long Call ID: 1 to 32 bytes, the last of them not zero (A1). Zeros before that one count.
 #[derive(Clone, Copy, PartialEq, Eq, Hash, Debug)]
 pub(crate) struct Name {
     pub size: u8,
@@ -27,7 +27,7 @@ pub(crate) struct Name {
 }
 
 impl Name {
-    /// Takes 1 to 32 bytes.
+    /// Takes 1 to 32 bytes that do not end in zero.
     pub fn new(name: &[u8]) -> Name {
         let mut bytes = [0; NAME];
         bytes[..name.len()].copy_from_slice(name);
@@ -36,6 +36,12 @@ impl Name {
             bytes,
         }
     }
+}
+
+/// A1: a name as it was received, up to its last byte that is not zero. Nothing is left of zeros only.
+pub(crate) fn without_padding(name: &[u8]) -> &[u8] {
+    let end = name.iter().rposition(|&byte| byte != 0).map_or(0, |last| last + 1);
+    &name[..end]
 }
 
 /// A short Call ID with its pair.

@@ -1,8 +1,8 @@
-//! 01, "Message layout" and "Every answer": reading a message as one of four kinds, and answers 3 to 10, 12 and 13.
+//! 01, "Message layout" and "Every answer", and 02's A1: reading a message as one of four kinds, and answers 3 to 10, 12 and 13.
 
 use crate::bytes::{long, word};
 use crate::checksum;
-use crate::keys::{Connection, Pair};
+use crate::keys::{without_padding, Connection, Pair};
 use crate::objects::{walk, Objects};
 use crate::table::NAME;
 
@@ -32,7 +32,7 @@ pub struct CallRequest<'a> {
     pub pair: Pair,
     /// The short Call ID, not 0.
     pub id: u16,
-    /// The long Call ID, 1 to 32 bytes.
+    /// The long Call ID, 1 to 32 bytes, without the zeros that were counted in Name Length.
     pub name: &'a [u8],
     pub session: &'a [u8; 16],
     pub template: &'a [u8; 12],
@@ -149,15 +149,16 @@ fn notify<'a>(objects: &Objects<'a>) -> Result<Message<'a>, Fault> {
     };
     let pair = pair(session, template);
     let status = long(admin_status, 4);
-    let (id, size) = (word(session, 8), usize::from(attribute[7]));
-    if let Some(answer) = notify_fault(status, error_spec, id, size) {
+    let id = word(session, 8);
+    let received = &attribute[8..8 + usize::from(attribute[7])];
+    if let Some(answer) = notify_fault(status, error_spec, id, received) {
         let sender = Some(pair.sender);
         return Err(Fault { answer, sender });
     }
     let request = CallRequest {
         pair,
         id,
-        name: &attribute[8..8 + size],
+        name: without_padding(received),
         session,
         template,
         message_id,
@@ -169,13 +170,13 @@ fn notify<'a>(objects: &Objects<'a>) -> Result<Message<'a>, Fault> {
     })
 }
 
-/// Answers 12 and 13.
-fn notify_fault(status: u32, error_spec: &[u8; 12], id: u16, size: usize) -> Option<u8> {
+/// Answers 12 and 13. The name is as received: its 32 counts padding, but a name of nothing else is none.
+fn notify_fault(status: u32, error_spec: &[u8; 12], id: u16, received: &[u8]) -> Option<u8> {
     let (code, value) = (error_spec[9], word(error_spec, 10));
     if status & CALL == 0 || status & REFLECT == 0 || code != 0 || value != 0 {
         return Some(12);
     }
-    if id == 0 || size == 0 || size > NAME {
+    if id == 0 || received.len() > NAME || without_padding(received).is_empty() {
         return Some(13);
     }
     None

@@ -155,11 +155,12 @@ fn checked_roster(table: &Table) -> Option<Roster> {
     (roster.share_sum() <= CALLS).then_some(roster)
 }
 
-/// A name of 1 to 32 bytes, zeros behind it.
+/// A name of 1 to 32 bytes, the last of them not zero, zeros behind it.
 fn checked_name(call: &Call) -> Option<Name> {
     let size = u8::try_from(call.size).ok()?;
     let past = call.name.get(size.into()..)?;
-    if size == 0 || past.iter().any(|&byte| byte != 0) {
+    let name = &call.name[..size.into()];
+    if name.last().is_none_or(|&last| last == 0) || past.iter().any(|&byte| byte != 0) {
         return None;
     }
     Some(Name { size, bytes: call.name })

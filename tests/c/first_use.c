@@ -94,6 +94,7 @@ int main(void)
 
     broken("taken 2", &table.calls[0].places[0].taken, 2);
     broken("a free slot's end point", &table.calls[9].endpoint, 1);
+    broken("a name that ends in zero", &table.calls[0].size, 2);
     /* These are zero until later requests use them. */
     broken("refreshed", &table.calls[0].refreshed, 1);
     broken("epoch", &table.calls[0].epoch, 1);

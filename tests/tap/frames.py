@@ -38,6 +38,20 @@ CASES = {
     ),
     # name length 32 opens, 33 is 13
     "names": frames(TWO, setup(Y, 1, b"n" * 32), setup(Y, 2, b"n" * 33)),
+    # 02, A1: padding that is counted in the name's length is no part of the name, a zero inside is; zeros only are 13
+    "padding": frames(
+        TWO,
+        setup(X, 1, b"ab"),
+        setup(X, 1, b"ab" + bytes(3)),
+        setup(X, 2, b"ab" + bytes(1)),
+        close(X, 1, b"ab" + bytes(30)),
+        close(X, 1, b"ab"),
+        setup(X, 1, bytes(4)),
+        close(X, 1, bytes(32)),
+        setup(X, 1, b"ab" + bytes(31)),
+        setup(X, 1, b"a\0b"),
+        setup(X, 1, b"a"),
+    ),
     # 1,024 bytes is read, 1,028 is 3
     "sizes": frames(TWO, filled(1024), filled(1028)),
     # long ID of one call with short ID of another; a short ID in use under another name

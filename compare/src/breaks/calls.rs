@@ -1,5 +1,5 @@
-//! "Every call's sender is listed", "no pair has a long or short ID twice", "names 1 to 32 bytes and Call IDs nonzero";
-//! the fields for later requests hold zeros.
+//! "Every call's sender is listed", "no pair has a long or short ID twice", "names 1 to 32 bytes and Call IDs nonzero",
+//! "a stored name ends in a nonzero byte" (A1); the fields for later requests hold zeros.
 
 use super::tools::*;
 use super::Break;
@@ -15,6 +15,11 @@ pub const BREAKS: &[(&str, Break)] = &[
     ("name of 0 bytes", name_none),
     ("name of 33 bytes", name_next),
     ("name of 34 to 255 bytes", name_above),
+    ("name whose last byte is zero", name_cut),
+    ("name with a zero byte more", name_padded),
+    ("name padded to 32 bytes", name_filled),
+    ("name of zeros only", name_zeros),
+    ("names a and a with a zero byte", names_alike),
     ("Call ID 0", id_none),
     ("byte right behind the name", byte_behind),
     ("byte anywhere past the name", byte_past),
@@ -88,6 +93,35 @@ fn name_next(table: &mut Table, random: &mut Random) -> bool {
 fn name_above(table: &mut Table, random: &mut Random) -> bool {
     let size = *random.pick(&[34, 36, 63, 64, 65, 128, 160, 254, 255]);
     with_call(table, random, |call| full_name(call, size))
+}
+
+fn name_cut(table: &mut Table, random: &mut Random) -> bool {
+    with_call(table, random, |call| call.name[call.size as usize - 1] = 0)
+}
+
+fn name_padded(table: &mut Table, random: &mut Random) -> bool {
+    with_short_name(table, random, |call, _| call.size += 1)
+}
+
+fn name_filled(table: &mut Table, random: &mut Random) -> bool {
+    with_short_name(table, random, |call, _| call.size = 32)
+}
+
+fn name_zeros(table: &mut Table, random: &mut Random) -> bool {
+    let size = random.between(1, 32);
+    with_call(table, random, |call| set_name(call, &[0; 32][..size]))
+}
+
+fn names_alike(table: &mut Table, random: &mut Random) -> bool {
+    let Some((one, other)) = two_of_a_pair(table, random) else {
+        return false;
+    };
+    let endpoint = fresh_endpoint(table, random);
+    table.calls[one].endpoint = endpoint;
+    table.calls[other].endpoint = endpoint;
+    set_name(&mut table.calls[one], b"a");
+    set_name(&mut table.calls[other], b"a\0");
+    true
 }
 
 fn id_none(table: &mut Table, random: &mut Random) -> bool {

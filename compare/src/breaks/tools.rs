@@ -46,7 +46,7 @@ pub fn set_name(call: &mut Call, name: &[u8]) {
 
 /// A name of 16 random bytes: no call has it.
 pub fn fresh_name(call: &mut Call, random: &mut Random) {
-    let name = random.bytes(16);
+    let name = random.long_id(16);
     set_name(call, &name);
 }
 

@@ -29,6 +29,14 @@ pub const DAMAGES: &[(&str, Damage)] = &[
     ("call: another name length", |p, _, r| {
         one(p, r, |call, r| call[SIZE.0] = r.between(1, 32) as u8)
     }),
+    ("call: name's last byte zero", |p, _, r| one(p, r, last_zero)),
+    ("call: name of zeros only", |p, _, r| {
+        one(p, r, |call, r| {
+            call[SIZE.0] = r.between(1, 32) as u8;
+            call[NAME.0..REFRESHED.0].fill(0);
+        })
+    }),
+    ("call with connections: name padded", padded),
     ("call: Call ID 0", |p, _, r| one(p, r, |call, _| set(call, ID, 0))),
     ("call: slot outside the total", |p, _, r| {
         one(p, r, |call, r| call[SLOT.0] = *r.pick(&[64, 65, 127, 128, 192, 255]))
@@ -77,6 +85,32 @@ fn past_name(call: &mut Call, random: &mut Random) {
     let any = random.between(size, 31);
     let at = *random.pick(&[size, 31, any]);
     call[NAME.0 + at] = 1 << random.below(8);
+}
+
+fn last_zero(call: &mut Call, _: &mut Random) {
+    let size = usize::from(call[SIZE.0] & 0x7f).clamp(1, 32);
+    call[NAME.0 + size - 1] = 0;
+}
+
+/// Zeros counted in the name's length, as a record from before A1 can have them; a name of 32 bytes loses its last.
+pub fn pad(call: &mut Call, random: &mut Random) {
+    let size = usize::from(call[SIZE.0] & 0x7f);
+    if size < 32 {
+        call[SIZE.0] = *random.pick(&[size + 1, 32]) as u8;
+    } else {
+        last_zero(call, random);
+    }
+}
+
+/// The call goes with all its connections.
+fn padded(parts: &mut Parts, _: &Roster, random: &mut Random) -> bool {
+    let is_lit = |&number: &usize| !parts.naming(&parts.calls[number]).is_empty();
+    let lit: Vec<usize> = (0..parts.calls.len()).filter(is_lit).collect();
+    if lit.is_empty() {
+        return false;
+    }
+    pad(&mut parts.calls[*random.pick(&lit)], random);
+    true
 }
 
 fn taken_slot(parts: &mut Parts, _: &Roster, random: &mut Random) -> bool {
@@ -168,6 +202,6 @@ pub fn fresh(slot: u8, sender: u32, random: &mut Random) -> Call {
     set(&mut call, SENDER, sender);
     let size = random.between(8, 32);
     call[SIZE.0] = size as u8;
-    random.fill(&mut call[NAME.0..][..size]);
+    call[NAME.0..][..size].copy_from_slice(&random.long_id(size));
     call
 }

@@ -1,5 +1,6 @@
 //! Duplicates: two or more calls of one pair and long ID, with connections and without.
 
+use super::calls;
 use super::connections;
 use super::damage::Damage;
 use super::parts::*;
@@ -14,6 +15,7 @@ pub const DAMAGES: &[(&str, Damage)] = &[
     ("duplicate: with the call's connections", taken_over),
     ("duplicate: same short ID, another slot", same_id),
     ("duplicate: breaks a rule alone", broken),
+    ("duplicate: the same name padded", padded),
     ("duplicate: wins and finds its slot taken", slot_taken),
     ("duplicates: several", several),
 ];
@@ -114,6 +116,17 @@ fn broken(parts: &mut Parts, _: &Roster, random: &mut Random) -> bool {
         _ => call[SIZE.0] |= 0x80,
     }
     name(parts, duplicate, 6, random);
+    true
+}
+
+/// A record of the same name with padding, as it could stand beside the other before A1: step 1 drops it.
+fn padded(parts: &mut Parts, _: &Roster, random: &mut Random) -> bool {
+    let Some((_, duplicate)) = duplicate(parts, random) else {
+        return false;
+    };
+    calls::pad(&mut parts.calls[duplicate], random);
+    let count = random.between(0, 6);
+    name(parts, duplicate, count, random);
     true
 }
 

@@ -12,6 +12,7 @@ pub const REASONS: &[&str] = &[
     "call alone: name length 0",
     "call alone: name length above 32",
     "call alone: byte past the name",
+    "call alone: name ends in zero",
     "call alone: made mark",
     "call alone: last refresh",
     "call alone: request epoch",
@@ -73,6 +74,7 @@ fn is_listed(roster: &[Record], sender: u32) -> bool {
 fn alone(roster: &[Record], call: &Call) -> Option<&'static str> {
     let size = call[SIZE.0] as usize & 0x7f;
     let past = call[NAME.0..REFRESHED.0].iter().skip(size).any(|&byte| byte != 0);
+    let ends_in_zero = (1..=32).contains(&size) && call[NAME.0 + size - 1] == 0;
     let faults = [
         (get(call, SLOT) >= 64, "call alone: slot outside the total"),
         (!is_listed(roster, get(call, SENDER)), "call alone: sender not listed"),
@@ -80,6 +82,7 @@ fn alone(roster: &[Record], call: &Call) -> Option<&'static str> {
         (size == 0, "call alone: name length 0"),
         (size > 32, "call alone: name length above 32"),
         (past, "call alone: byte past the name"),
+        (ends_in_zero, "call alone: name ends in zero"),
         (call[SIZE.0] >= 0x80, "call alone: made mark"),
         (get(call, REFRESHED) != 0, "call alone: last refresh"),
         (get(call, EPOCH) != 0, "call alone: request epoch"),
@@ -189,6 +192,20 @@ mod tests {
         let drops = expected_drops(ROSTER, &parts);
         assert_eq!(drops.calls, ["duplicate: fewer connections"]);
         assert_eq!(drops.connections, ["connection: no such call"]);
+    }
+
+    /// A1: a record of the same name and a zero byte more goes first, with its connections, however many.
+    #[test]
+    fn names_that_end_in_zero() {
+        let mut padded = call(4, 6, b'a');
+        set(&mut padded, SIZE, 2);
+        let parts = Parts {
+            calls: vec![call(3, 5, b'a'), padded],
+            connections: vec![connection(6, 1), connection(6, 2), connection(5, 3)],
+        };
+        let drops = expected_drops(ROSTER, &parts);
+        assert_eq!(drops.calls, ["call alone: name ends in zero"]);
+        assert_eq!(drops.connections, ["connection: no such call"; 2]);
     }
 
     #[test]

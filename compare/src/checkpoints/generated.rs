@@ -64,7 +64,7 @@ fn records(pairs: &[(u32, u32)], random: &mut Random) -> Vec<u8> {
     parts.bytes()
 }
 
-/// One in twelve breaks a rule alone.
+/// One in ten breaks a rule alone.
 fn call(pairs: &[(u32, u32)], values: usize, random: &mut Random) -> Call {
     let mut call = [0; CALL];
     let (endpoint, sender) = *random.pick(pairs);
@@ -72,14 +72,19 @@ fn call(pairs: &[(u32, u32)], values: usize, random: &mut Random) -> Call {
     set(&mut call, ID, random.between(1, values) as u32);
     set(&mut call, ENDPOINT, endpoint);
     set(&mut call, SENDER, sender);
-    set(&mut call, SIZE, random.between(1, 3) as u32);
-    set(&mut call, (NAME.0, 1), random.below(values) as u32);
+    let (size, value) = (random.between(1, 3), random.below(values.min(255)) as u32);
+    set(&mut call, SIZE, size as u32);
+    set(&mut call, (NAME.0, 1), value);
+    // The last byte, which is the first one too in a name of one, is not zero.
+    let last = if size == 1 { value + 1 } else { 1 };
+    set(&mut call, (NAME.0 + size - 1, 1), last);
     match random.below(60) {
         0 => set(&mut call, SLOT, 64),
         1 => set(&mut call, ID, 0),
         2 => set(&mut call, SIZE, 0),
         3 => set(&mut call, SIZE, 0x81),
         4 => set(&mut call, (NAME.0 + 31, 1), 1),
+        5 => set(&mut call, (NAME.0 + size - 1, 1), 0),
         _ => {}
     }
     call
@@ -106,8 +111,8 @@ fn largest(roster: &Roster, values: usize, random: &mut Random) -> Vec<u8> {
     };
     if values == parts.calls.len() {
         for (number, call) in parts.calls.iter_mut().enumerate() {
-            set(call, SIZE, 2);
-            set(call, (NAME.0, 2), number as u32);
+            set(call, SIZE, 3);
+            set(call, (NAME.0, 3), (number as u32) << 8 | 1);
         }
     }
     parts.bytes()
@@ -127,6 +132,7 @@ fn duplicates(roster: &Roster, counts: &[usize], random: &mut Random) -> Vec<u8>
         let mut call = call(&[pair], 1, random);
         set(&mut call, ID, id);
         set(&mut call, SIZE, 1);
+        set(&mut call, (NAME.0, 3), u32::from(b'n') << 16);
         parts.calls.push(call);
         let named = (0..count).map(|_| connections::fresh(pair, id, random));
         parts.connections.extend(named);

@@ -51,7 +51,7 @@ pub record NotifyBounds (s : List ℕ) (v : Objects) : Type 0 where
   pub status : v .status .at + 8 ≤ length s
   pub attribute : v .attribute .at + be16At s (v .attribute .at) ≤ length s
   pub attributeSize : be16At s (v .attribute .at) ≡ 8 + roundedUpTo4 (nameLength s (v .attribute .at))
-  pub attributeHead : v .attribute .at + 8 ≤ length s
+  pub name : v .attribute .at + 8 + nameLength s (v .attribute .at) ≤ length s
 
 pub notify-bounds : (s : List ℕ) (v : Objects) → notifyComplete v ≡ true → Placed s v → NotifyBounds s v
 unfolding notifyComplete
@@ -70,5 +70,5 @@ notify-bounds s v e g =
       status = g .status (came (v .status) (w2 .1));
       attribute = a .1;
       attributeSize = a .0;
-      attributeHead = omega (arith, a);
+      name = omega (arith, a);
     }

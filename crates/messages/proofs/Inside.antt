@@ -9,6 +9,7 @@ use mathlib.Core.Bool.{Bool, true, false, cond, not, _||_}
 use lib.Dec.{ltb, eqb}
 use borrow.Author.Tests.{eqb-false, ltb-false, not-false}
 use Rattle.numbers.proofs.BigEndian.{be16-bound, be32-bound}
+use Rattle.numbers.proofs.Padding.{unpadded-says}
 use Rattle.objects.specs.Forms.{nameLength}
 use Rattle.objects.specs.Placed.{Placed}
 use Rattle.objects.specs.Walk.{walkOf}
@@ -27,7 +28,7 @@ use Rattle.messages.specs.declared.read.Reading.the-variants.{Refused, U
 use Rattle.messages.specs.Header.{headerOf}
 use Rattle.messages.specs.Status.{bitSet, deleteBit}
 use Rattle.messages.specs.Counts.{notifyComplete, pathComplete}
-use Rattle.messages.specs.Fields.{callIdAt, connectionIn, requestAt}
+use Rattle.messages.specs.Fields.{callIdAt, longSize, connectionIn, requestAt}
 use Rattle.messages.specs.Inside.{CallInside, ConnectionInside, Inside}
 use Rattle.messages.specs.Claims.{ReadInside}
 use Rattle.messages.specs.Read.{statusAt, isCallRequest, badIdentity, notifyOf, pathOf, objectsRead, walkedRead, headerRead, readOf}
@@ -40,18 +41,18 @@ Promised s (Unfit fault sender headers) = Unit {0}
 Promised s (Read message headers) = Inside s message
 
 good-identity : (s : List ℕ) (session attribute : ℕ) → badIdentity s session attribute ≡ false
-    → (0 < callIdAt s session) × (0 < nameLength s attribute) × (nameLength s attribute ≤ 32)
+    → (0 < callIdAt s session) × (0 < longSize s attribute) × (nameLength s attribute ≤ 32)
 unfolding badIdentity
-good-identity s session attribute e = by (eqb (callIdAt s session) 0) (eqb (nameLength s attribute) 0) (ltb 32 (nameLength s attribute)) refl refl refl e
+good-identity s session attribute e = by (eqb (callIdAt s session) 0) (eqb (longSize s attribute) 0) (ltb 32 (nameLength s attribute)) refl refl refl e
   where
-    by : (a b d : Bool) → eqb (callIdAt s session) 0 ≡ a → eqb (nameLength s attribute) 0 ≡ b → ltb 32 (nameLength s attribute) ≡ d → (a || b || d) ≡ false
-        → (0 < callIdAt s session) × (0 < nameLength s attribute) × (nameLength s attribute ≤ 32)
+    by : (a b d : Bool) → eqb (callIdAt s session) 0 ≡ a → eqb (longSize s attribute) 0 ≡ b → ltb 32 (nameLength s attribute) ≡ d → (a || b || d) ≡ false
+        → (0 < callIdAt s session) × (0 < longSize s attribute) × (nameLength s attribute ≤ 32)
     by true b d p q r e = let z : _≡_ {A = ℕ} 0 1 = cc in absurd (omega arith)
     by false true d p q r e = let z : _≡_ {A = ℕ} 0 1 = cc in absurd (omega arith)
     by false false true p q r e = let z : _≡_ {A = ℕ} 0 1 = cc in absurd (omega arith)
     by false false false p q r e =
         let x : callIdAt s session ≡ 0 → ⊥ = eqb-false _ _ p in
-        let y : nameLength s attribute ≡ 0 → ⊥ = eqb-false _ _ q in
+        let y : longSize s attribute ≡ 0 → ⊥ = eqb-false _ _ q in
         (omega arith, omega arith, ltb-false _ _ r)
 
 module _ (s : List ℕ) where
@@ -77,18 +78,20 @@ module _ (s : List ℕ) where
   request v g e i =
       let b = notify-bounds s v e g in
       let k = good-identity s (v .session .at) (v .attribute .at) i in
+      let cut = unpadded-says s (v .attribute .at + 8) (nameLength s (v .attribute .at)) in
       record {
         session = b .session;
         template = b .template;
         attribute = b .attribute;
-        name = omega (arith, b .attribute, b .attributeSize);
+        name = omega (arith, b .name, cut .most);
         sessionSize = refl;
         templateSize = refl;
         attributeLeast = omega (arith, b .attributeSize);
         attributeMost = omega (arith, b .attributeSize, k);
         attributeFours = omega (arith, b .attributeSize);
         nameSome = k .1;
-        nameMost = k .2;
+        nameMost = omega (arith, cut .most, k .2);
+        nameEnds = cut .last;
         callSome = k .0;
         callFits = be16-bound s (v .session .at + 8);
         identifierFits = be32-bound s (v .identifier .at + 8);

@@ -2,6 +2,7 @@
 use Prim.Native.Nat.{ℕ, _+_}
 use mathlib.Core.List.{List}
 use Rattle.numbers.specs.BigEndian.{be16At, be24At, be32At}
+use Rattle.numbers.specs.Search.{unpadded}
 use Rattle.objects.specs.Forms.{nameLength}
 use Rattle.messages.specs.declared.message.CallRequest.{CallRequest}
 use Rattle.messages.specs.declared.message.Connection.{Connection}
@@ -41,13 +42,17 @@ connectionIn s session template = record {
   template = record { at = template; size = 12 };
 }
 
+-- the size of the long Call ID: the session name without the zeros at its end (02, A1: padding is no part of a name)
+abbrev pub longSize : List ℕ → ℕ → ℕ
+longSize s attribute = unpadded s (attribute + 8) (nameLength s attribute)
+
 -- what a Notify says; MESSAGE_ID: flags, epoch, identifier; SESSION_ATTRIBUTE: priorities, flags, name length, name
 unfoldable pub requestAt : List ℕ → ℕ → ℕ → ℕ → ℕ → CallRequest
 requestAt s session template identifier attribute = record {
   endpoint = endpointAt s session;
   sender = senderAt s template;
   call = record { 0 = callIdAt s session };
-  name = record { at = attribute + 8; size = nameLength s attribute };
+  name = record { at = attribute + 8; size = longSize s attribute };
   sequence = record { epoch = be24At s (identifier + 5); identifier = be32At s (identifier + 8) };
   session = record { at = session; size = 16 };
   attribute = record { at = attribute; size = be16At s attribute };

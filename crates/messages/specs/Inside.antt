@@ -1,8 +1,10 @@
 -- What a message that was read has: its parts lie within it, with the sizes that a reply relies on, a request names a
--- call, and where the message is a byte string the IDs have sixteen bits and the identifier 32.
-use Prim.Native.Nat.{ℕ, _%_, _≤_, _<_}
+-- call, with a long ID that ends in a byte that is not zero, and where the message is a byte string the IDs have sixteen bits and the identifier 32.
+use Prim.Native.Nat.{ℕ, suc, _+_, _%_, _≤_, _<_}
 use mathlib.Core.Path.{_≡_}
+use mathlib.Core.Logic.{_≢_}
 use mathlib.Core.List.{List}
+use lib.ListN.{getD}
 use Rattle.numbers.specs.BigEndian.{Bytes}
 use Rattle.objects.specs.Part.{Within}
 use Rattle.messages.specs.declared.message.CallRequest.{CallRequest}
@@ -22,6 +24,7 @@ pub record CallInside (s : List ℕ) (r : CallRequest) : Type 0 where
   pub attributeFours : r .attribute .size % 4 ≡ 0
   pub nameSome : 0 < r .name .size
   pub nameMost : r .name .size ≤ 32
+  pub nameEnds : (k : ℕ) → r .name .size ≡ suc k → getD s (r .name .at + k) 0 ≢ 0
   pub callSome : 0 < r .call .0
   pub callFits : Bytes s → r .call .0 < 0x10000
   pub identifierFits : Bytes s → r .sequence .identifier < 0x100000000

@@ -23,7 +23,7 @@ use Rattle.messages.specs.declared.read.Reading.the-variants.{Refused, U
 use Rattle.messages.specs.Header.{headerOf}
 use Rattle.messages.specs.Status.{bitSet, reflectBit, callBit, deleteBit}
 use Rattle.messages.specs.Counts.{notifyComplete, pathComplete}
-use Rattle.messages.specs.Fields.{callIdAt, senderAt, connectionIn, requestAt}
+use Rattle.messages.specs.Fields.{callIdAt, senderAt, longSize, connectionIn, requestAt}
 
 abbrev pub statusAt : List ℕ → ℕ → ℕ
 statusAt s status = be32At s (status + 4)
@@ -33,9 +33,9 @@ unfoldable pub isCallRequest : List ℕ → ℕ → ℕ → Bool
 isCallRequest s status error =
     bitSet reflectBit (statusAt s status) && bitSet callBit (statusAt s status) && eqb (getD s (error + 9) 0) 0 && eqb (be16At s (error + 10)) 0
 
--- 13: Call ID 0, or name length 0 or above 32
+-- 13: Call ID 0, or a name of no bytes but zeros, or a name length above 32 as received
 unfoldable pub badIdentity : List ℕ → ℕ → ℕ → Bool
-badIdentity s session attribute = eqb (callIdAt s session) 0 || eqb (nameLength s attribute) 0 || ltb 32 (nameLength s attribute)
+badIdentity s session attribute = eqb (callIdAt s session) 0 || eqb (longSize s attribute) 0 || ltb 32 (nameLength s attribute)
 
 -- a Notify: D set closes a call, D clear opens one
 unfoldable pub notifyOf : List ℕ → Objects → Reading

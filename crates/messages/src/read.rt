@@ -3,8 +3,9 @@ ghost use mathlib.Core.Path.{_≡_};
 ghost use mathlib.Core.Bool.{true, false};
 ghost use Prim.Native.Nat.{_+_, _≤_};
 ghost use lib.ListN.{length};
+ghost use Rattle.objects.specs.Forms.{nameLength};
 ghost use Rattle.objects.specs.Placed.{Placed};
-ghost use Rattle.messages.specs.Fields.{connectionIn, requestAt};
+ghost use Rattle.messages.specs.Fields.{longSize, connectionIn, requestAt};
 ghost use Rattle.messages.specs.Counts.{notifyComplete, pathComplete};
 ghost use Rattle.messages.specs.Read.{isCallRequest, badIdentity, notifyOf, pathOf, objectsRead, readOf};
 use crate::header::Header;
@@ -21,6 +22,7 @@ use crate::status::bit_set;
 use numbers::big_endian::get16;
 use numbers::big_endian::get24;
 use numbers::big_endian::get32;
+use numbers::search::unpadded;
 use objects::fault::Fault;
 use objects::fields::CallId;
 use objects::fields::LspId;
@@ -108,7 +110,7 @@ fn request_at(
     identifier: usize,
     attribute: usize,
 ) -> CallRequest
-    requires { ⌜ (session + 16 ≤ length (now s)) × (template + 12 ≤ length (now s)) × (identifier + 12 ≤ length (now s)) × (attribute + 8 ≤ length (now s)) ⌝ }
+    requires { ⌜ (session + 16 ≤ length (now s)) × (template + 12 ≤ length (now s)) × (identifier + 12 ≤ length (now s)) × (attribute + 8 + nameLength (now s) attribute ≤ length (now s)) ⌝ }
     ensures { λ r. ⌜ r ≡ requestAt (now (s .entry)) session template identifier attribute ⌝ }
 {
     CallRequest {
@@ -117,7 +119,7 @@ fn request_at(
         call: CallId(get16(s, session + 8)),
         name: Part {
             at: attribute + 8,
-            size: to_usize(s[attribute + 7]),
+            size: long_size(s, attribute),
         },
         sequence: MessageId {
             epoch: get24(s, identifier + 5),
@@ -144,6 +146,15 @@ fn to_usize(b: u8) -> usize
     b as usize
 }
 
+// The size of the long Call ID: the session name without the zeros at its end.
+fn long_size(s: &[u8], attribute: usize) -> usize
+    requires { ⌜ attribute + 8 + nameLength (now s) attribute ≤ length (now s) ⌝ }
+    ensures { λ r. ⌜ r ≡ longSize (now (s .entry)) attribute ⌝ }
+{
+    let name = to_usize(s[attribute + 7]);
+    unpadded(s, attribute + 8, name)
+}
+
 // Test 12: R and C set, no error.
 fn is_call_request(s: &[u8], status: usize, error: usize) -> bool
     requires { ⌜ (status + 8 ≤ length (now s)) × (error + 12 ≤ length (now s)) ⌝ }
@@ -155,14 +166,18 @@ fn is_call_request(s: &[u8], status: usize, error: usize) -> bool
     bit_set(R, bits) & bit_set(C, bits) & (code == 0) & (value == 0)
 }
 
-// Test 13: no short Call ID, or a name of no bytes or more than 32.
+// Test 13: no short Call ID, a name length of more than 32, or a name of no bytes but zeros. A name that is too long is
+// not looked through.
 fn bad_identity(s: &[u8], session: usize, attribute: usize) -> bool
-    requires { ⌜ (session + 16 ≤ length (now s)) × (attribute + 8 ≤ length (now s)) ⌝ }
+    requires { ⌜ (session + 16 ≤ length (now s)) × (attribute + 8 + nameLength (now s) attribute ≤ length (now s)) ⌝ }
     ensures { λ r. ⌜ r ≡ badIdentity (now (s .entry)) session attribute ⌝ }
 {
     let call = get16(s, session + 8);
     let name = s[attribute + 7];
-    (call == 0) | (name == 0) | (32 < name)
+    if 32 < name {
+        return true;
+    }
+    (call == 0) | (long_size(s, attribute) == 0)
 }
 
 fn read_notify(s: &[u8], v: Objects) -> Reading

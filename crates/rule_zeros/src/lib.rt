@@ -25,16 +25,23 @@ use table_words::fours::place_words;
 use table_words::head::listed;
 use table_words::head::occupied;
 use table_words::ids::is_call_id;
+use table_words::names::name_byte;
+use table_words::names::name_size;
 use table_words::names::past_name_clear;
 
-// A name of 1 to 32 bytes, and a Call ID of sixteen bits that is not 0, or a free slot.
+// A name of 1 to 32 bytes that ends in a byte that is not zero, and a Call ID of sixteen bits that is not 0, or a free
+// slot.
 fn ids_valid(t: &Words, word: u64, i: usize) -> bool
     requires { ⌜ i < total ⌝ }
     ensures { λ r. ⌜ r ≡ (not (isUsed word i) || validIds (callAt (tableOf (now (t .entry))) i)) ⌝ }
 {
     if is_used(word, i) {
         let c = call_head(t, i);
-        return is_call_id(c.id) & (c.size != 0) & (c.size <= 32);
+        let n = name_size(c.size);
+        if (c.size == 0) | (32 < c.size) {
+            return false;
+        }
+        return is_call_id(c.id) & (name_byte(t, i, n - 1) != 0);
     }
     true
 }

@@ -5,10 +5,11 @@ use Prim.Native.Nat.{ℕ, zero, suc, _+_, _-_, _≤_, _<_}
 use native.Mathlib.Nat.{add-assoc, add-zero}
 use native.Mathlib.Omega.{arith}
 use mathlib.Core.Path.{_≡_, refl, sym, ap, _∙_}
+use mathlib.Core.Logic.{_≢_}
 use mathlib.Core.List.{List, [], _∷_}
 use mathlib.Core.Bool.{Bool, true, false, _&&_, and-true, and-false}
 use lib.Dec.{ltb, eqb}
-use lib.ListN.{length, getD, replicate, drop}
+use lib.ListN.{length, getD, replicate, drop, List·getD-append}
 use lib.Seq.{getD-append-add, getD-drop}
 use borrow.Author.Tests.{eq-eqb, ne-eqb, ltb-true, ltb-false}
 use Rattle.numbers.specs.Search.{zerosAt}
@@ -147,8 +148,17 @@ module _ (t : Table) (c : Ids) (s : Shape t) (free : lowestFree (t .occupied) < 
     records = k .records;
   }
 
+-- a name that ends in a byte other than zero does so in its slot
+stored-ends : (c : Ids) → 0 < length (c .long) → ((k : ℕ) → length (c .long) ≡ suc k → getD (c .long) k 0 ≢ 0) → getD (stored c .name) (stored c .size - 1) 0 ≢ 0
+unfolding atFront
+stored-ends c some ends e =
+    let k = length (c .long) - 1 in
+    let n : length (c .long) ≡ suc k = omega arith in
+    ends k n (sym (List·getD-append (c .long) (drop (length (c .long)) (zeros 32)) 0 k (omega (arith, n))) ∙ e)
+
 -- every rule
 pub opened-kept : (t : Table) (c : Ids) → Shape t → Kept t → MayOpen (totalOf t) (roster t) (entries t) c → ((a : ℕ) → countIf (isAt a) (roster t) ≤ 1)
-    → 0 < c .short → c .short < 0x10000 → 0 < length (c .long) → length (c .long) ≤ 32 → Kept (opened t c)
-opened-kept t c s k m d short fits some few =
-    keeps t c s (free-slot t (room-for (totalOf t) (roster t) (entries t) c (k .calls) m)) k m d (named-ids (stored c) (record { some = short; fits = fits; long = some; most = few }))
+    → 0 < c .short → c .short < 0x10000 → 0 < length (c .long) → length (c .long) ≤ 32 → ((k : ℕ) → length (c .long) ≡ suc k → getD (c .long) k 0 ≢ 0) → Kept (opened t c)
+opened-kept t c s k m d short fits some few ends =
+    keeps t c s (free-slot t (room-for (totalOf t) (roster t) (entries t) c (k .calls) m)) k m d
+    (named-ids (stored c) (record { some = short; fits = fits; long = some; most = few; ends = stored-ends c some ends }))

@@ -1,12 +1,13 @@
 -- Each change keeps the agreement of table and ledger.
 -- Assumes nothing.
-use Prim.Native.Nat.{ℕ, _+_, _≤_, _<_}
+use Prim.Native.Nat.{ℕ, suc, _+_, _≤_, _<_}
 use native.Mathlib.Omega.{arith}
 use mathlib.Core.Path.{_≡_, refl, sym, ap, _∙_}
+use mathlib.Core.Logic.{_≢_}
 use mathlib.Core.List.{List, _∷_}
 use mathlib.Core.Bool.{Bool, true, false, _&&_}
 use lib.Dec.{eqb, ltb}
-use lib.ListN.{length}
+use lib.ListN.{length, getD}
 use Rattle.lists.specs.Count.{bit, countIf, has, without}
 use Rattle.lists.proofs.Tests.{both}
 use Rattle.lists.proofs.Search.{not-ext}
@@ -66,10 +67,10 @@ module _ (t : Table) (l : List Entry) (g : Agrees t l) where
   free c m = free-slot t (room-for (totalOf t) (roster t) (entries t) c (kept .calls) m)
 
   pub open-agrees : (c : Ids) → MayOpen (totalOf t) (roster t) (entries t) c → 0 < c .short → c .short < 0x10000 → 0 < length (c .long) → length (c .long) ≤ 32
-      → Agrees (opened t c) (record { slot = lowestSlot l (totalOf t); ids = c } ∷ l)
-  open-agrees c m short fits some most = record {
+      → ((k : ℕ) → length (c .long) ≡ suc k → getD (c .long) k 0 ≢ 0) → Agrees (opened t c) (record { slot = lowestSlot l (totalOf t); ids = c } ∷ l)
+  open-agrees c m short fits some most ends = record {
     shape = opened-shape t c (g .shape) (free c m);
-    rules = kept-rules (opened t c) (opened-kept t c (g .shape) kept m (roster-kept t (kept .accepted) .apart) short fits some most);
+    rules = kept-rules (opened t c) (opened-kept t c (g .shape) kept m (roster-kept t (kept .accepted) .apart) short fits some most ends);
     calls = λ p. opened-entries t c (g .shape) (free c m) p ∙ rw (lowest-is t l (g .calls), g .calls p);
   }
 

@@ -1,14 +1,18 @@
 -- One message: table and ledger agree after it as before it, the roster stays, and connections come and go by it alone.
 -- Assumes nothing.
-use Prim.Native.Nat.{ℕ, _<_}
+use Prim.Native.Nat.{ℕ, suc, _<_}
 use native.Mathlib.Omega.{arith}
-use mathlib.Core.Path.{_≡_, refl}
+use mathlib.Core.Path.{_≡_, refl, sym, _∙_}
+use mathlib.Core.Logic.{_≢_}
 use mathlib.Core.List.{List, _∷_}
 use mathlib.Core.Bool.{Bool, true, false, cond}
-use lib.ListN.{length}
+use lib.ListN.{length, getD, drop}
+use lib.Seq.{getD-take, getD-drop}
 use Rattle.numbers.specs.BigEndian.{Bytes}
 use Rattle.lists.specs.Count.{countIf, without}
+use Rattle.messages.specs.declared.message.CallRequest.{CallRequest}
 use Rattle.messages.specs.declared.message.Connection.{Connection}
+use Rattle.messages.specs.Inside.{CallInside}
 use Rattle.messages.specs.declared.message.Message.the-variants.{Open, Close, Add, Drop}
 use Rattle.replies.proofs.Lengths.{part-length}
 use Rattle.table.specs.Table.{Table}
@@ -42,6 +46,12 @@ pub answer-is : (t : Table) (s : List ℕ) (room : ℕ) → rulesHold t ≡ true
 unfolding answerOf
 answer-is t s room h = rw h
 
+-- the long ID of a request that was read ends in a byte that is not zero
+name-ends : (s : List ℕ) (q : CallRequest) → CallInside s q → (k : ℕ) → length (idsIn s q .long) ≡ suc k → getD (idsIn s q .long) k 0 ≢ 0
+name-ends s q i k e z =
+    let n = part-length s (q .name) (i .name) in
+    i .nameEnds k (sym n ∙ e) (sym (getD-take (q .name .size) (drop (q .name .at) s) k 0 (omega (arith, n, e)) ∙ getD-drop (q .name .at) s k 0) ∙ z)
+
 module _ (t : Table) (l : List Entry) (g : Agrees t l) where
   -- a change, where an answer makes it, and the identifier taken, where it sends a Notify
   by-answer : (b notified : Bool) (u : Table) (k : List Entry) → (b ≡ true → Agrees u k)
@@ -71,7 +81,8 @@ module _ (t : Table) (l : List Entry) (g : Agrees t l) where
         rw (i .four, open-never (totalOf t) (roster t) (entries t) (idsIn s q) 22 refl refl refl refl refl)
         (by-answer (is 20 a) (sendsNotify a) (opened t (idsIn s q)) _
         (λ e. open-agrees t l g (idsIn s q) (may-open (totalOf t) (roster t) (entries t) (idsIn s q) (i .known) e) (i .inside .callSome) (i .inside .callFits bytes)
-        (rw (part-length s (q .name) (i .inside .name)) (i .inside .nameSome)) (rw (part-length s (q .name) (i .inside .name)) (i .inside .nameMost))))
+        (rw (part-length s (q .name) (i .inside .name)) (i .inside .nameSome)) (rw (part-length s (q .name) (i .inside .name)) (i .inside .nameMost))
+        (name-ends s q (i .inside))))
     form-agrees (sound (Close q)) i =
         let a = closeAnswer (entries t) (held t) (idsIn s q) in
         rw (i .four, close-never (entries t) (held t) (idsIn s q) 20 refl refl refl)

@@ -4,7 +4,7 @@
 use mathlib.Core.Path.{_≡_, refl}
 use Rattle.numbers.specs.Buffer.{atFront}
 use Rattle.numbers.specs.Checksum.{firstWords, allRound, wordsSum}
-use Rattle.numbers.specs.Search.{isIn, zerosAt}
+use Rattle.numbers.specs.Search.{isIn, zerosAt, unpadded}
 use Rattle.objects.specs.Classes.{passedOver, refusedClass}
 use Rattle.objects.specs.Forms.{hasForm, attributeFormed, formed, misformed}
 use Rattle.objects.specs.Item.{badLength, itemAt}
@@ -29,11 +29,16 @@ use Rattle.spec_calls.specs.PathRules.{addAnswer, dropAnswer}
 use Rattle.spec_calls.specs.Handling.{answerOf, tableAfter, replyAfter}
 use Rattle.starred_cases.specs.TwoCustomers.{cases, CasesHold}
 use Rattle.starred_cases.specs.Replies.{replyCases, RepliesHold}
+use Rattle.starred_cases.specs.PaddedNames.{paddedCases, PaddedHold}
 
 pub cases-hold : CasesHold
-unfolding cases withUsed withFree firstNot atFront isIn zerosAt passedOver refusedClass hasForm attributeFormed formed misformed badLength itemAt seen objectsOf walkFrom walkOf badMessageLength checksumHolds typeOf headerOf notifyComplete pathComplete connectionIn requestAt isCallRequest badIdentity notifyOf pathOf readOf elementIf listIf below everyBelow firstBelow noCall noCustomer emptyTable S badShare acceptable rosterHolds sameBytes sameShort sameLong validIds sameLsp placeClear placeValid callFreeClear callClear customerFreeClear customerClear rulesHold badForm recordsAnswer rosterAnswer customersFrom freshTable tableFor opened closed addedUnder removedUnder added removed listedOr11 formOf shareUsedUp openAnswer closeAnswer addAnswer dropAnswer answerOf tableAfter replyAfter
+unfolding cases withUsed withFree firstNot atFront isIn zerosAt unpadded passedOver refusedClass hasForm attributeFormed formed misformed badLength itemAt seen objectsOf walkFrom walkOf badMessageLength checksumHolds typeOf headerOf notifyComplete pathComplete connectionIn requestAt isCallRequest badIdentity notifyOf pathOf readOf elementIf listIf below everyBelow firstBelow noCall noCustomer emptyTable S badShare acceptable rosterHolds sameBytes sameShort sameLong validIds sameLsp placeClear placeValid callFreeClear callClear customerFreeClear customerClear rulesHold badForm recordsAnswer rosterAnswer customersFrom freshTable tableFor opened closed addedUnder removedUnder added removed listedOr11 formOf shareUsedUp openAnswer closeAnswer addAnswer dropAnswer answerOf tableAfter replyAfter
 cases-hold = refl
 
 pub replies-hold : RepliesHold
-unfolding replyCases withUsed withFree firstNot atFront isIn zerosAt passedOver refusedClass hasForm attributeFormed formed misformed badLength itemAt seen objectsOf walkFrom walkOf badMessageLength checksumHolds typeOf headerOf notifyComplete pathComplete connectionIn requestAt isCallRequest badIdentity notifyOf pathOf readOf elementIf listIf below everyBelow firstBelow noCall noCustomer emptyTable S badShare acceptable rosterHolds sameBytes sameShort sameLong validIds sameLsp placeClear placeValid callFreeClear callClear customerFreeClear customerClear rulesHold badForm recordsAnswer rosterAnswer customersFrom freshTable tableFor opened closed addedUnder removedUnder added removed listedOr11 formOf shareUsedUp openAnswer closeAnswer addAnswer dropAnswer answerOf tableAfter replyAfter pathErrBytes pathErrBeforeChecksum notifyBytes notifyBeforeChecksum withChecksum checksumOf wordsSum allRound firstWords
+unfolding replyCases withUsed withFree firstNot atFront isIn zerosAt unpadded passedOver refusedClass hasForm attributeFormed formed misformed badLength itemAt seen objectsOf walkFrom walkOf badMessageLength checksumHolds typeOf headerOf notifyComplete pathComplete connectionIn requestAt isCallRequest badIdentity notifyOf pathOf readOf elementIf listIf below everyBelow firstBelow noCall noCustomer emptyTable S badShare acceptable rosterHolds sameBytes sameShort sameLong validIds sameLsp placeClear placeValid callFreeClear callClear customerFreeClear customerClear rulesHold badForm recordsAnswer rosterAnswer customersFrom freshTable tableFor opened closed addedUnder removedUnder added removed listedOr11 formOf shareUsedUp openAnswer closeAnswer addAnswer dropAnswer answerOf tableAfter replyAfter pathErrBytes pathErrBeforeChecksum notifyBytes notifyBeforeChecksum withChecksum checksumOf wordsSum allRound firstWords
 replies-hold = refl
+
+pub padded-hold : PaddedHold
+unfolding paddedCases withUsed withFree firstNot atFront isIn zerosAt unpadded passedOver refusedClass hasForm attributeFormed formed misformed badLength itemAt seen objectsOf walkFrom walkOf badMessageLength checksumHolds typeOf headerOf notifyComplete pathComplete connectionIn requestAt isCallRequest badIdentity notifyOf pathOf readOf elementIf listIf below everyBelow firstBelow noCall noCustomer emptyTable S badShare acceptable rosterHolds sameBytes sameShort sameLong validIds sameLsp placeClear placeValid callFreeClear callClear customerFreeClear customerClear rulesHold badForm recordsAnswer rosterAnswer customersFrom freshTable tableFor opened closed addedUnder removedUnder added removed listedOr11 formOf shareUsedUp openAnswer closeAnswer addAnswer dropAnswer answerOf tableAfter replyAfter pathErrBytes pathErrBeforeChecksum notifyBytes notifyBeforeChecksum withChecksum checksumOf wordsSum allRound firstWords
+padded-hold = refl

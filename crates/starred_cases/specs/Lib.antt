@@ -1,2 +1,3 @@
 pub mod TwoCustomers
 pub mod Replies
+pub mod PaddedNames

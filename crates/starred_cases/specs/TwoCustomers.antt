@@ -48,7 +48,7 @@ fourNumbers f = below (λ j. f .endpoint j ∷ placeAt f j .taken ∷ placeAt f 
 abbrev callNumbers : Call → List ℕ
 callNumbers c = c .endpoint ∷ c .sender ∷ c .id ∷ c .size ∷ (c .name ++ fourNumbers (callFour c))
 
-abbrev unchanged : Table → Table → Bool
+abbrev pub unchanged : Table → Table → Bool
 unchanged t u =
     eqb (t .occupied) (u .occupied)
     && everyBelow (λ i. sameBytes (callNumbers (callAt t i)) (callNumbers (callAt u i))) (totalOf t)
@@ -91,24 +91,28 @@ outcomes t (ask before message outcome ∷ rows) = askedOn (tableThrough t befor
 
 -- ---- messages (01, Message layout), with no checksum sent
 
-abbrev object : ℕ → ℕ → List ℕ → List ℕ
+abbrev pub object : ℕ → ℕ → List ℕ → List ℕ
 object class ctype body = bytes16 (4 + length body) ++ class ∷ ctype ∷ body
 
-abbrev message : ℕ → List ℕ → List ℕ
+abbrev pub message : ℕ → List ℕ → List ℕ
 message kind objects = 0x10 ∷ kind ∷ 0 ∷ 0 ∷ 255 ∷ 0 ∷ bytes16 (8 + length objects) ++ objects
 
-abbrev session : ℕ → ℕ → List ℕ
+abbrev pub session : ℕ → ℕ → List ℕ
 session call tunnel = object 1 7 (bytes32 0x0a000002 ++ bytes16 call ++ bytes16 tunnel ++ bytes32 0x0a000002)
 
-abbrev template : ℕ → ℕ → List ℕ
+abbrev pub template : ℕ → ℕ → List ℕ
 template sender lsp = object 11 7 (bytes32 sender ++ bytes16 0 ++ bytes16 lsp)
 
--- a Notify with these ADMIN_STATUS bits and a name of one byte
-abbrev notify : ℕ → ℕ → ℕ → ℕ → List ℕ
-notify status sender call name =
+-- a Notify with these ADMIN_STATUS bits and this body of the SESSION_ATTRIBUTE
+abbrev pub notifyWith : ℕ → ℕ → ℕ → List ℕ → List ℕ
+notifyWith status sender call attribute =
     message 21
     (session call 0 ++ object 6 1 (replicate 8 0) ++ template sender 0 ++ object 23 1 (bytes32 1 ++ bytes32 7)
-    ++ object 196 1 (bytes32 status) ++ object 207 7 (7 ∷ 7 ∷ 0 ∷ 1 ∷ name ∷ 0 ∷ 0 ∷ 0 ∷ []))
+    ++ object 196 1 (bytes32 status) ++ object 207 7 attribute)
+
+-- with a name of one byte
+abbrev notify : ℕ → ℕ → ℕ → ℕ → List ℕ
+notify status sender call name = notifyWith status sender call (7 ∷ 7 ∷ 0 ∷ 1 ∷ name ∷ 0 ∷ 0 ∷ 0 ∷ [])
 
 abbrev setup : ℕ → ℕ → ℕ → List ℕ
 setup = notify 0x80000008
@@ -124,7 +128,7 @@ pathTear sender call = message 5 (session call 1 ++ template sender 1)
 
 -- ---- the two customers
 
-abbrev X : ℕ
+abbrev pub X : ℕ
 X = 0x0a000001
 
 abbrev Y : ℕ

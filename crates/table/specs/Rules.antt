@@ -8,6 +8,7 @@ use Prim.Native.Nat.{ℕ, _-_}
 use mathlib.Core.List.{List, [], _∷_}
 use mathlib.Core.Bool.{Bool, true, false, cond, not, _&&_, _||_}
 use lib.Dec.{ltb, leb, eqb}
+use lib.ListN.{getD}
 use Rattle.numbers.specs.Search.{zerosAt}
 use Rattle.lists.specs.Count.{has, sumOf, noTwo}
 use Rattle.lists.specs.Below.{everyBelow}
@@ -65,9 +66,14 @@ sameShort c d = samePair c d && eqb (c .short) (d .short)
 unfoldable pub sameLong : Ids → Ids → Bool
 sameLong c d = samePair c d && sameBytes (c .long) (d .long)
 
--- a name of 1 to 32 bytes, and a Call ID of sixteen bits that is not 0
+-- a name of 1 to 32 bytes that ends in a byte that is not zero (02, A1), and a Call ID of sixteen bits that is not 0
 unfoldable pub validIds : Call → Bool
-validIds c = not (eqb (c .id) 0) && ltb (c .id) 0x10000 && not (eqb (c .size) 0) && leb (c .size) 32
+validIds c =
+    not (eqb (c .id) 0)
+    && ltb (c .id) 0x10000
+    && not (eqb (c .size) 0)
+    && leb (c .size) 32
+    && not (eqb (getD (c .name) (c .size - 1) 0) 0)
 
 -- ---- connections
 

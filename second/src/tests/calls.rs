@@ -96,14 +96,50 @@ fn tunnel_and_lsp_ids_are_no_part_of_a_call() {
 }
 
 #[test]
-fn a_zero_byte_makes_another_name() {
-    let mut tested = TestNode::two();
-    assert_eq!(tested.ask(&open(X, 1, b"a")), 20);
-    assert_eq!(tested.ask(&open(X, 1, b"a\0")), 30);
-    assert_eq!(tested.ask(&open(X, 2, b"a\0")), 20);
-    assert_eq!(tested.ask(&close(X, 1, b"a\0")), 33);
-    assert_eq!(tested.ask(&close(X, 2, b"a\0")), 22);
-    assert_eq!(tested.ask(&open(X, 1, b"a")), 21);
+fn zeros_at_the_end_are_no_part_of_a_name() {
+    for size in 1..=32 {
+        let mut padded = vec![0; size];
+        padded[0] = b'a';
+        // Opened with the padding and without it, the table is the same.
+        let (mut bare, mut tested) = (TestNode::two(), TestNode::two());
+        assert_eq!(bare.ask(&open(X, 1, b"a")), 20);
+        assert_eq!(tested.ask(&open(X, 1, &padded)), 20);
+        assert_eq!(tested.table, bare.table);
+        for other in 1..=32 {
+            let mut name = vec![0; other];
+            name[0] = b'a';
+            assert_eq!(tested.ask(&open(X, 1, &name)), 21);
+            assert_eq!(tested.ask(&open(X, 2, &name)), 31);
+            assert_eq!(tested.ask(&close(X, 2, &name)), 33);
+        }
+        assert_eq!(tested.ask(&path(X, 1, 1)), 23);
+        assert_eq!(tested.ask(&close(X, 1, b"a\0\0\0\0\0")), 32);
+        assert_eq!(tested.ask(&tear(X, 1, 1)), 25);
+        assert_eq!(tested.ask(&close(X, 1, b"a\0\0\0\0\0")), 22);
+        assert_eq!(tested.ask(&close(X, 1, &padded)), 33);
+    }
+}
+
+#[test]
+fn zeros_before_the_end_are_part_of_a_name() {
+    let names: [&[u8]; 5] = [b"a", b"a\0b", b"a\0\0b", b"\0a", b"\0\0a"];
+    let mut tested = TestNode::new(&[(X, 0, 64)]);
+    for (id, name) in (1..).zip(names) {
+        assert_eq!(tested.ask(&open(X, 99, name)), 20);
+        assert_eq!(tested.ask(&close(X, 99, name)), 22);
+        assert_eq!(tested.ask(&open(X, id, name)), 20);
+    }
+    for (id, name) in (1..).zip(names) {
+        for (other, padded) in (1..).zip(names.map(|name| [name, b"\0"].concat())) {
+            let same = id == other;
+            assert_eq!(tested.ask(&open(X, id, &padded)), if same { 21 } else { 31 });
+            assert_eq!(tested.ask(&close(X, id, &padded)), if same { 22 } else { 33 });
+            if same {
+                assert_eq!(tested.ask(&open(X, id, name)), 20);
+            }
+        }
+        assert_eq!(tested.ask(&open(X, id, b"a\0c")), 30);
+    }
 }
 
 #[test]

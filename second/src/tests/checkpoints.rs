@@ -247,7 +247,7 @@ fn places_close_up_and_slots_do_not() {
 fn the_worst_checkpoint_is_read_soon() {
     // All of one pair, every name another, every connection under another of the calls.
     let calls: Vec<Vec<u8>> = (1..=4095)
-        .map(|id: u16| call(id as u8, id, Y, &id.to_be_bytes()))
+        .map(|id: u16| call(id as u8, id, Y, &[&id.to_be_bytes()[..], b"n"].concat()))
         .collect();
     let connections: Vec<Vec<u8>> = (0..=65534).map(|n| under(n % 4096, Y, n)).collect();
     let checkpoint = checkpoint(&calls, &connections);

@@ -197,13 +197,44 @@ fn call_id_0_and_name_length_are_13() {
 }
 
 #[test]
+fn a_name_of_zeros_only_is_13() {
+    let mut tested = TestNode::two();
+    for size in 1..=33 {
+        for make in [open, close] {
+            assert_eq!(tested.ask(&make(X, 5, &vec![0; size])), 13);
+            // 11 and 12 come first.
+            assert_eq!(tested.ask(&make(UNLISTED, 5, &vec![0; size])), 11);
+        }
+        assert_eq!(tested.ask(&message(NOTIFY, &six(X, 5, &vec![0; size], 0))), 12);
+    }
+    // The 32 is on the length as received, whatever part of it is padding.
+    let mut padded = vec![0; 33];
+    padded[..2].copy_from_slice(b"ab");
+    for make in [open, close] {
+        assert_eq!(tested.ask(&make(X, 5, &padded)), 13);
+    }
+    assert_eq!(tested.ask(&open(X, 5, &padded[..32])), 20);
+    assert_eq!(tested.ask(&close(X, 5, &padded[..2])), 22);
+    // Behind Name Length the padding is still tested, and the object is as long as Name Length makes it.
+    let mut objects = six(X, 5, b"ab", SETUP);
+    objects[5][11] = 1;
+    assert_eq!(tested.ask(&message(NOTIFY, &objects)), 9);
+    objects[5] = hex("0010cf07 00000002 61620000 00000000");
+    assert_eq!(tested.ask(&message(NOTIFY, &objects)), 9);
+    objects[5] = hex("0010cf07 00000005 61620000 00000000");
+    assert_eq!(tested.ask(&message(NOTIFY, &objects)), 20);
+}
+
+#[test]
 fn the_content_of_a_paths_optional_objects_is_not_looked_at() {
     let mut tested = TestNode::two();
-    for name in [0, 33, 255] {
-        let mut objects = six(X, 0, &vec![b'n'; name], 0);
-        objects[1] = error_spec(32, 3);
-        let answer = tested.ask(&message(PATH, &objects));
-        assert!(answer == 23 || answer == 24);
+    for byte in [b'n', 0] {
+        for name in [0, 1, 32, 33, 255] {
+            let mut objects = six(X, 0, &vec![byte; name], 0);
+            objects[1] = error_spec(32, 3);
+            let answer = tested.ask(&message(PATH, &objects));
+            assert!(answer == 23 || answer == 24);
+        }
     }
 }
 

@@ -142,3 +142,23 @@ fn refusals_carry_c_or_c_and_d() {
     assert_eq!(tested.ask(&open(X, 5, b"ab")), 34);
     assert_eq!(tested.reply[60..68], hex("0008c401 00000008"));
 }
+
+#[test]
+fn the_session_name_goes_back_as_it_came() {
+    let mut tested = worked();
+    assert_eq!(tested.ask(&open(X, 5, b"ab")), 20);
+    for size in 2..=32 {
+        let mut name = b"ab".to_vec();
+        name.resize(size, 0);
+        let object = attribute(&name);
+        assert_eq!(tested.ask(&open(X, 5, &name)), 21);
+        assert_eq!(tested.reply[68..tested.reply.len() - 12], object);
+        assert_eq!(tested.ask(&close(X, 5, &name)), 22);
+        assert_eq!(tested.reply[68..tested.reply.len() - 12], object);
+        assert_eq!(tested.ask(&close(X, 5, &name)), 33);
+        assert_eq!(tested.reply[68..tested.reply.len() - 12], object);
+        // The next retry comes with other padding than this open.
+        assert_eq!(tested.ask(&open(X, 5, &name)), 20);
+        assert_eq!(tested.reply[68..tested.reply.len() - 12], object);
+    }
+}

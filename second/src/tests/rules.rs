@@ -126,6 +126,7 @@ fn ids_once_in_a_pair() {
     assert!(breaks(|t| t.calls[1].name = t.calls[0].name));
     assert!(!breaks(|t| {
         t.calls[1].name = t.calls[0].name;
+        t.calls[1].name[2] = 1;
         t.calls[1].size = 3;
     }));
     assert!(!breaks(|t| {
@@ -140,10 +141,32 @@ fn ids_once_in_a_pair() {
 fn names() {
     assert!(breaks(|t| t.calls[0].size = 0));
     assert!(breaks(|t| t.calls[0].size = 1));
-    assert!(!breaks(|t| t.calls[0].size = 32));
+    assert!(!breaks(|t| {
+        t.calls[0].size = 32;
+        t.calls[0].name[31] = 1;
+    }));
     assert!(breaks(|t| t.calls[0].size = 33));
     assert!(breaks(|t| t.calls[0].size = 255));
     assert!(breaks(|t| t.calls[0].name[31] = 1));
+    // The last byte is zero, whatever stands before it; zeros elsewhere may stand.
+    for size in 1..=32 {
+        let name = |last: u8| {
+            move |t: &mut Table| {
+                t.calls[0].size = size as u32;
+                t.calls[0].name = [0; 32];
+                t.calls[0].name[..size].fill(b'n');
+                t.calls[0].name[size / 2] = 0;
+                t.calls[0].name[size - 1] = last;
+            }
+        };
+        assert!(breaks(name(0)));
+        assert!(!breaks(name(1)));
+        assert!(!breaks(name(0x80)));
+        assert!(breaks(|t| {
+            t.calls[0].size = size as u32;
+            t.calls[0].name = [0; 32];
+        }));
+    }
     // No bytes at all, and the name zeros.
     assert!(breaks(|t| {
         t.calls[0].size = 0;

@@ -38,18 +38,25 @@ fn slots() {
 
 #[test]
 fn name_lengths() {
-    let with_length = |length: u8| {
+    let with_length = |length: u8, last: u8| {
         drops(|record| {
+            let size = usize::from(length).min(32);
             record[11] = length;
             record[12..44].fill(0);
+            record[12..12 + size].fill(b'n');
+            if let Some(byte) = record[12..12 + size].last_mut() {
+                *byte = last;
+            }
         })
     };
-    assert!(with_length(0));
+    assert!(with_length(0, 0));
     for length in 1..=32 {
-        assert!(!with_length(length));
+        assert!(!with_length(length, b'n'));
+        // A1: a stored name does not end in zero.
+        assert!(with_length(length, 0));
     }
     for length in 33..=127 {
-        assert!(with_length(length));
+        assert!(with_length(length, b'n'));
     }
 }
 
@@ -57,7 +64,7 @@ fn name_lengths() {
 fn name_bytes_past_the_length() {
     // Bytes 12 and 13 are the name.
     assert!(!drops(|record| record[12] = 0));
-    assert!(!drops(|record| record[13] = 0));
+    assert!(drops(|record| record[13] = 0));
     for at in 14..44 {
         assert!(drops(|record| record[at] = 1));
         assert!(drops(|record| record[at] = 0x80));
@@ -66,6 +73,17 @@ fn name_bytes_past_the_length() {
         record[11] = 32;
         record[43] = 1;
     }));
+}
+
+/// A1: such a record, as one written before that request may have it, goes with its connections.
+#[test]
+fn a_name_that_ends_in_zero() {
+    let calls = [call(0, 5, X, b"ab\0"), call(1, 6, X, b"c")];
+    let connections = [under(5, X, 1), under(5, X, 2), under(6, X, 3), under(0, X, 4)];
+    let read = salvage(ROOMY, &checkpoint(&calls, &connections));
+    assert_eq!(read.calls, [(1, 6)]);
+    assert_eq!(read.dropped, (1, 2));
+    assert_eq!((read.lsps(1), read.standalone(0)), (vec![3], vec![4]));
 }
 
 #[test]

@@ -70,16 +70,20 @@ fn only_records_of_the_pair_count() {
 
 #[test]
 fn one_pair_and_one_long_id() {
-    // Another end point, another sender, a zero byte more: no duplicates.
+    // Another end point, another sender, a zero byte in the name: no duplicates.
     let calls = [
         call(0, 5, X, b"ab"),
         call_at(X, 1, 5, X, b"ab"),
         call(2, 5, Y, b"ab"),
-        call(3, 6, X, b"ab\0"),
+        call(3, 6, X, b"a\0b"),
     ];
     let read = salvage(ROOMY, &checkpoint(&calls, &[under(6, X, 1)]));
     assert_eq!(read.calls, [(0, 5), (1, 5), (2, 5), (3, 6)]);
     assert_eq!(read.dropped, (0, 0));
+    // A zero byte more is dropped before (A1), however many connections name it.
+    let calls = [call(0, 5, X, b"ab"), call(3, 6, X, b"ab\0")];
+    let read = salvage(ROOMY, &checkpoint(&calls, &[under(6, X, 1), under(6, X, 2)]));
+    assert_eq!((read.calls.clone(), read.dropped), (vec![(0, 5)], (1, 2)));
 }
 
 #[test]

@@ -36,7 +36,7 @@ returns-2 c = rw (sym (c .before .before .before .before .notify-complete .ensur
 bad-identity-requires : tie.Need-bad-identity-requires
 bad-identity-requires c κs =
     let g = notify-bounds _ _ (sym (c .before .before .before .before .notify-complete .ensures) ∙ not-false _ (c .before .before .before .if1 .left)) (c .before .before .before .before .before .before .pre) in
-    (g .session, g .attributeHead)
+    (g .session, g .name)
 
 returns-3 : tie.Need-returns-3
 unfolding notifyOf
@@ -45,7 +45,7 @@ returns-3 c = rw (sym (c .before .before .before .before .before .before .notify
 request-at-requires : tie.Need-request-at-requires
 request-at-requires c κs =
     let g = notify-bounds _ _ (sym (c .before .before .before .before .before .before .notify-complete .ensures) ∙ not-false _ (c .before .before .before .before .before .if1 .left)) (c .before .before .before .before .before .before .before .before .pre) in
-    (g .session, g .template, g .identifier, g .attributeHead)
+    (g .session, g .template, g .identifier, g .name)
 
 add-get32-2 : tie.Need-add-get32-2
 add-get32-2 c = omega (arith, notify-bounds _ _ (sym (c .before .before .before .before .before .before .before .notify-complete .ensures) ∙ not-false _ (c .before .before .before .before .before .before .if1 .left)) (c .before .before .before .before .before .before .before .before .before .pre))

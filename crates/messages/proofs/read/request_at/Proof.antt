@@ -25,14 +25,8 @@ get16-requires c κs = search needs
 add-t13 : tie.Need-add-t13
 add-t13 c = search needs
 
-add-to-usize : tie.Need-add-to-usize
-add-to-usize c = search needs
-
-shared-slice-read-to-usize : tie.Need-shared-slice-read-to-usize
-shared-slice-read-to-usize c = search needs
-
-to-usize-requires : tie.Need-to-usize-requires
-to-usize-requires c κs = search needs
+long-size-requires : tie.Need-long-size-requires
+long-size-requires c κs = search needs
 
 add-get24 : tie.Need-add-get24
 add-get24 c = search needs
@@ -49,13 +43,13 @@ get32-requires-3 c κs = search needs
 get16-requires-2 : tie.Need-get16-requires-2
 get16-requires-2 c κs = search needs
 
-cast-t26 : tie.Need-cast-t26
-cast-t26 c = search needs
+cast-t23 : tie.Need-cast-t23
+cast-t23 c = search needs
 
 returns : tie.Need-returns
 unfolding requestAt
 returns c =
-    simp (c .before .before .before .before .before .before .before .get32 .ensures, c .before .before .before .before .before .before .get322 .ensures, c .before .before .before .before .before .get16 .ensures, c .before .before .before .to-usize .ensures, c .before .before .get24 .ensures, c .before .get323 .ensures, c .get162 .ensures)
+    simp (c .before .before .before .before .before .before .get32 .ensures, c .before .before .before .before .before .get322 .ensures, c .before .before .before .before .get16 .ensures, c .before .before .before .long-size .ensures, c .before .before .get24 .ensures, c .before .get323 .ensures, c .get162 .ensures)
 
 pub request-at-spec : {M : Type 1} → statement M
 request-at-spec =
@@ -68,13 +62,11 @@ request-at-spec =
     add-get16
     get16-requires
     add-t13
-    add-to-usize
-    shared-slice-read-to-usize
-    to-usize-requires
+    long-size-requires
     add-get24
     get24-requires
     add-get32-3
     get32-requires-3
     get16-requires-2
-    cast-t26
+    cast-t23
     returns)
