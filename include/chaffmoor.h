@@ -16,9 +16,9 @@
  *
  * Stack, the called function's own frames and all below them, as bench/run measures it (docs/MEASURED.md), rounded up:
  *   chaffmoor_read_roster           512 bytes
- *   chaffmoor_handle              8,192 bytes
- *   chaffmoor_write_checkpoint    8,192 bytes
- *   chaffmoor_read_checkpoint    24,576 bytes
+ *   chaffmoor_handle             12,288 bytes
+ *   chaffmoor_write_checkpoint   12,288 bytes
+ *   chaffmoor_read_checkpoint    36,864 bytes
  *
  * The struct layouts are those of the x86-64 System V ABI; the static assertions at the end hold them fast. */
 #ifndef CHAFFMOOR_H

@@ -2,9 +2,11 @@
 //! doing the same checks, at tables of 64, 32, 16 and 0 calls; then the size of the table and the stack that is used.
 //! With `quick` each is measured once only, to see that it runs.
 //!
-//! bench peer [quick]: the same as a ratio to the yardstick, the tuned peer, at tables of 64, 16 and 0 calls.
+//! bench peer [quick]: the same as a ratio to the yardstick, the tuned peer, at tables of 64, 32, 16 and 0 calls, at
+//! tables chosen to be slow, and in reading alone.
 
 mod checkpoints;
+mod chosen;
 mod clock;
 mod inputs;
 mod messages;

@@ -33,6 +33,16 @@ pub fn ratio(input: &str, (calls, pairs): (u32, u32), (proved, peer): (f64, f64)
     );
 }
 
+/// Nanoseconds of both for reading a message: no table is needed.
+pub fn reading(message: &str, (proved, peer): (f64, f64)) {
+    let ratio = proved / peer;
+    println!(
+        "| reading alone, {message} | | | {} | {} | {ratio:.2} |",
+        whole(proved),
+        whole(peer)
+    );
+}
+
 /// Above the rows of sizes.
 pub fn head_of_sizes() {
     println!();

@@ -13,7 +13,7 @@ extern "C" {
 }
 
 /// The fault of form that the bytes alone show, 0 where there is none.
-fn read(message: &[u8]) -> u8 {
+pub fn read(message: &[u8]) -> u8 {
     // SAFETY: the pointer is good for `len` bytes, and the library only reads them.
     unsafe { chaffmoor_part_read(message.as_ptr(), message.len()) }
 }
@@ -46,7 +46,7 @@ pub fn measure_reading() {
 }
 
 /// Short and long ones, few and many objects, with and without a checksum.
-fn messages() -> Vec<(&'static str, Vec<u8>)> {
+pub fn messages() -> Vec<(&'static str, Vec<u8>)> {
     let fields = Fields {
         endpoint: inputs::ENDPOINT,
         sender: 0x0a00_0001,

@@ -1,8 +1,10 @@
 //! bench peer: the proved program beside the yardstick, the tuned and unproved peer, which does the same job with the
-//! same table by pointer. A row for each input, then the worst ratio at a full table and the deepest stack.
+//! same table by pointer. A row for each input; then the worst ratio, the slowest row of a table that was chosen to be
+//! slow, and the deepest stack.
 
+use crate::chosen::Chosen;
 use crate::clock::SHORT;
-use crate::inputs::{calls, Calls, Pairs};
+use crate::inputs::{calls, chosen, Calls, Pairs};
 use crate::messages::{self, Row};
 use crate::output;
 use crate::parts;
@@ -11,37 +13,73 @@ use compare::first;
 use compare::layout::{words, words_mut};
 use std::hint::black_box;
 
-/// Calls of a full table.
-const FULL: u32 = 64;
-
-const TABLES: [Calls; 7] = [
+const TABLES: [Calls; 11] = [
     calls(0, Pairs::Own),
     calls(16, Pairs::Own),
     calls(16, Pairs::Eight),
     calls(16, Pairs::One),
-    calls(FULL, Pairs::Own),
-    calls(FULL, Pairs::Eight),
-    calls(FULL, Pairs::One),
+    calls(32, Pairs::Own),
+    calls(32, Pairs::Eight),
+    calls(32, Pairs::One),
+    calls(64, Pairs::Own),
+    calls(64, Pairs::Eight),
+    calls(64, Pairs::One),
+    chosen(Chosen::Spread),
+];
+
+/// Tables whose keys all meet: for each program there are some, and they are not the same, so that a ratio says little.
+const SLOW: [(&str, Calls); 2] = [
+    ("chosen for chains", chosen(Chosen::Chains)),
+    ("chosen for marks", chosen(Chosen::Marks)),
 ];
 
 pub fn print() {
     output::head_of_ratios();
-    let (mut worst, mut deepest) = (0f64, 0);
+    let (mut worst, mut slowest, mut deepest) = (0f64, 0f64, 0);
     for calls in TABLES {
-        let mut note = |what, times: (f64, f64)| {
-            output::ratio(what, (calls.count, calls.pairs()), times);
-            if calls.count == FULL {
-                worst = worst.max(times.0 / times.1);
-            }
+        let spread = if calls.chosen == Chosen::Spread {
+            ", names spread"
+        } else {
+            ""
         };
-        for row in messages::rows(calls) {
-            note(row.what, handling(&row));
-            deepest = deepest.max(stack_of(&row));
-        }
-        note("rule check alone", rules(calls));
+        let (times, stack) = table(calls, spread);
+        worst = times.iter().fold(worst, |worst, times| worst.max(times.0 / times.1));
+        deepest = deepest.max(stack);
+    }
+    for (how, calls) in SLOW {
+        let (times, stack) = table(calls, &format!(", {how}"));
+        slowest = times.iter().fold(slowest, |slowest, times| slowest.max(times.0));
+        deepest = deepest.max(stack);
+    }
+    for (name, message) in parts::messages() {
+        output::reading(name, reading(&message));
     }
     println!("worst ratio {worst:.2}");
+    println!("slowest chosen {slowest:.0} ns");
     println!("stack {deepest}");
+}
+
+/// Prints a row for each kind of message at a table, and one for the rule check: their times, and the deepest stack.
+fn table(calls: Calls, how: &str) -> (Vec<(f64, f64)>, usize) {
+    let (mut all, mut deepest) = (Vec::new(), 0);
+    let mut note = |what: &str, times: (f64, f64)| {
+        output::ratio(&format!("{what}{how}"), (calls.count, calls.pairs()), times);
+        all.push(times);
+    };
+    for row in messages::rows(calls) {
+        note(row.what, handling(&row));
+        deepest = deepest.max(stack_of(&row));
+    }
+    note("rule check alone", rules(calls));
+    (all, deepest)
+}
+
+/// Nanoseconds of both for reading a message to its end.
+fn reading(message: &[u8]) -> (f64, f64) {
+    let mut proved = || u64::from(parts::read(black_box(message)));
+    let mut peer = || u64::from(peer::read_number(black_box(message)));
+    assert_eq!((proved(), peer()), (0, 0));
+    SHORT.in_turns(&mut proved, &mut peer)
 }
 
 /// Nanoseconds per message of both.

@@ -24,3 +24,12 @@ pub fn handle(table: &mut Words, message: &[u8], reply: &mut [u8]) -> (u8, usize
 pub fn rules_hold(table: &Words) -> bool {
     rules::check(Table::of(table)).is_some()
 }
+
+/// The fault of form that the bytes alone show, 0 where there is none.
+#[inline(never)]
+pub fn read_number(message: &[u8]) -> u8 {
+    match message::read(message) {
+        message::Read::Fault(answer) | message::Read::Unfit(answer, _) => answer,
+        message::Read::Message(..) => 0,
+    }
+}

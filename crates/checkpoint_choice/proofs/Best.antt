@@ -12,6 +12,7 @@ use borrow.Author.Tests.{eqb-true, eqb-false, ltb-true}
 use Rattle.lists.specs.Count.{bit}
 use Rattle.lists.specs.Below.{everyBelow}
 use Rattle.lists.proofs.Tests.{both}
+use Rattle.lists.proofs.Below.{every-same}
 use Rattle.table.specs.Table.{Table}
 use Rattle.table.specs.Total.{total}
 use Rattle.table.specs.Lists.{idsOf}
@@ -39,11 +40,6 @@ regroup true true false = refl
 regroup true false true = refl
 regroup true false false = refl
 regroup false b c = refl
-
-every-same : (p q : ℕ → Bool) (n : ℕ) → ((j : ℕ) → j < n → p j ≡ q j) → everyBelow p n ≡ everyBelow q n
-unfolding everyBelow
-every-same p q zero h = refl
-every-same p q (suc n) h = rw (every-same p q n (λ j b. h j (omega arith)), h n (omega arith))
 
 -- where the arrays are filled for the whole checkpoint
 module _ (fresh : Table) (s sound named : List ℕ) (n : ℕ) (complete : n ≡ callsIn s) (flags : Filled (λ j. bit (soundAlone fresh (callRecord s j))) sound n)

@@ -1,2 +1,4 @@
 pub mod Sized
 pub mod Ranked
+pub mod Chained
+pub mod LongChain

@@ -1,20 +1,21 @@
 // Which of the calls of one pair and long Call ID is kept. What is asked of each record is computed once, into arrays:
-// a checkpoint has up to 4,095 calls, each of which is compared with all others, and up to 65,535 connections. Records
-// are compared where they stand in the checkpoint.
+// a checkpoint has up to 4,095 calls and 65,535 connections. A record is compared with those of its chain alone, where
+// they stand in the checkpoint.
 //
 // Here and below, the records lie within the checkpoint: its size has been tested against its counts.
 ghost use mathlib.Core.Path.{_≡_};
+ghost use mathlib.Core.Bool.{true};
 ghost use Prim.Native.Nat.{_+_, _*_, _<_, _≤_, min};
-ghost use lib.ListN.{length};
+ghost use lib.ListN.{length, replicate};
 ghost use Rattle.lists.specs.Count.{bit};
 ghost use Rattle.table.specs.Lists.{idsOf};
-ghost use Rattle.table.specs.Rules.{sameBytes, sameLong};
+ghost use Rattle.table.specs.Rules.{sameBytes, sameLong, rulesHold};
 ghost use Rattle.table.specs.Words.{tableOf};
 ghost use Rattle.spec_checkpoint.specs.Layout.{callRecord};
-ghost use Rattle.spec_checkpoint.specs.Salvage.{soundAlone, namedBy};
-ghost use Rattle.checkpoint_choice.specs.Sized.{Sized};
+ghost use Rattle.spec_checkpoint.specs.Salvage.{soundAlone};
 ghost use Rattle.checkpoint_choice.specs.Ranked.{Filled, isBetter, isBest};
-use crate::naming::named_by;
+ghost use Rattle.checkpoint_choice.specs.LongChain.{chainOf, LongChains};
+use crate::naming::sized;
 use checkpoint_salvage::placing::sound_alone;
 use lists::one_if;
 use lists::to_usize;
@@ -22,10 +23,10 @@ use numbers::big_endian::get32;
 use table::layout::Words;
 use table_words::names::name_size;
 
-// 1 for each record that is sound alone. The records are tried in the lent table, which is left as it was.
-pub fn sound_flags(t: &mut Words, s: &[u8], calls: usize) -> [u8; 4096]
-    requires { ⌜ (4 + 55 * calls ≤ length (now s)) × (calls ≤ 4096) ⌝ }
-    ensures { λ m. ⌜ Filled (λ j. bit (soundAlone (tableOf (now (t .entry))) (callRecord (now (s .entry)) j))) m calls × (tableOf (now (t .exit)) ≡ tableOf (now (t .entry))) ⌝ }
+// 1 for each record that is sound alone: in a fresh table, which keeps the rules and has no call.
+pub fn sound_flags(t: &Words, s: &[u8], calls: usize) -> [u8; 4096]
+    requires { ⌜ (4 + 55 * calls ≤ length (now s)) × (calls ≤ 4096) × (rulesHold (tableOf (now t)) ≡ true) × (tableOf (now t) .occupied ≡ 0) ⌝ }
+    ensures { λ m. ⌜ Filled (λ j. bit (soundAlone (tableOf (now (t .entry))) (callRecord (now (s .entry)) j))) m calls ⌝ }
 {
     let mut flags = [0u8; 4096];
     let mut i: usize = 0;
@@ -34,20 +35,6 @@ pub fn sound_flags(t: &mut Words, s: &[u8], calls: usize) -> [u8; 4096]
         i += 1;
     }
     flags
-}
-
-// How many connection records name each record.
-pub fn named_counts(s: &[u8], calls: usize, connections: usize) -> [u16; 4096]
-    requires { ⌜ Sized (now s) calls connections × (calls ≤ 4096) × (connections < 65536) ⌝ }
-    ensures { λ m. ⌜ Filled (λ j. namedBy (now (s .entry)) (callRecord (now (s .entry)) j)) m calls ⌝ }
-{
-    let mut counts = [0u16; 4096];
-    let mut i: usize = 0;
-    while i < calls {
-        counts[i] = named_by(s, calls, connections, i) as u16;
-        i += 1;
-    }
-    counts
 }
 
 // How many of the 32 bytes of a record's name count.
@@ -108,19 +95,65 @@ fn is_better(s: &[u8], sound: &[u8; 4096], named: &[u16; 4096], i: usize, j: usi
     same_long(s, j, i)
 }
 
-pub fn is_best(s: &[u8], sound: &[u8; 4096], named: &[u16; 4096], calls: usize, i: usize) -> bool
-    requires { ⌜ (4 + 55 * calls ≤ length (now s)) × (calls ≤ 4096) × (i < calls) ⌝ }
+// The chain of record i's pair and long Call ID, one of 2,048.
+fn long_chain(s: &[u8], i: usize) -> usize
+    requires { ⌜ 4 + 55 * i + 55 ≤ length (now s) ⌝ }
+    ensures { λ r. ⌜ (r ≡ chainOf (now (s .entry)) i) × (r < 2048) ⌝ }
+{
+    let at = 4 + 55 * i;
+    let n = size_at(s, i);
+    let mut a: usize = 0;
+    let mut b: usize = 0;
+    let mut k: usize = 0;
+    while k < n {
+        a += to_usize(s[at + 12 + k]);
+        b += a;
+        k += 1;
+    }
+    let pair = (get32(s, at + 3) as usize) * 199728483 + (get32(s, at + 7) as usize) * 179213453;
+    (pair + a * 205589543 + b * 150838921) % 4294967296 / 2097152
+}
+
+// The records in chains by pair and long Call ID, the last record first, so that a walk meets the first record first,
+// the one kept of those that are named alike. Place k in the chains has record calls - 1 - k. The caller lends heads of
+// zeros, and links: what these hold before does not matter.
+pub fn long_chains(s: &[u8], heads: &mut [u16; 2048], links: &mut [u16; 4096], calls: usize)
+    requires { ⌜ (4 + 55 * calls ≤ length (now s)) × (calls ≤ 4096) × (now heads ≡ replicate 2048 0) ⌝ }
+    ensures { λ _. ⌜ LongChains (now (s .entry)) (now (heads .exit)) (now (links .exit)) calls ⌝ }
+{
+    sized(links);
+    let mut k: usize = 0;
+    while k < calls {
+        let m = long_chain(s, calls - 1 - k);
+        links[k] = heads[m];
+        heads[m] = (k + 1) as u16;
+        k += 1;
+    }
+}
+
+// Record i is kept. Whoever is better has the same pair and long Call ID, so that the walk through the chain meets it.
+// The chains are those that `long_chains` made.
+pub fn is_best(
+    s: &[u8],
+    heads: &[u16; 2048],
+    links: &[u16; 4096],
+    sound: &[u8; 4096],
+    named: &[u16; 4096],
+    calls: usize,
+    i: usize,
+) -> bool
+    requires { ⌜ (4 + 55 * calls ≤ length (now s)) × (calls ≤ 4096) × (i < calls) × LongChains (now s) (now heads) (now links) calls ⌝ }
     ensures { λ b. ⌜ b ≡ isBest (now (s .entry)) (now (sound .entry)) (now (named .entry)) calls i ⌝ }
 {
-    let alone = sound[i] == 1;
-    if !alone {
+    if sound[i] != 1 {
         return false;
     }
-    let mut best = true;
-    let mut j: usize = 0;
-    while j < calls {
-        best = best & !is_better(s, sound, named, i, j);
-        j += 1;
+    let mut e = heads[long_chain(s, i)] as usize;
+    while e != 0 {
+        if is_better(s, sound, named, i, calls - e) {
+            return false;
+        }
+        e = links[e - 1] as usize;
     }
-    best
+    true
 }

@@ -1,38 +1,157 @@
-// How many connection records of a checkpoint name a call.
+// How many connection records of a checkpoint name each call record, in one pass over the connections. Call records are
+// looked up by short ID and pair, in 2,048 chains: a head is one more than the last record of its chain, a link one
+// more than the record before, and 0 where there is none. Of the records that have one short ID and pair only the first
+// is in a chain: it stands for the others, and connections are counted for it.
 ghost use mathlib.Core.Path.{_≡_};
-ghost use Prim.Native.Nat.{_+_, _<_, _≤_};
-ghost use lib.ListN.{length};
-ghost use Rattle.spec_changes.specs.Connections.{isUnder};
-ghost use Rattle.spec_checkpoint.specs.Layout.{callRecord, heldAtByte};
+ghost use Prim.Native.Nat.{ℕ, _+_, _*_, _-_, _<_, _≤_};
+ghost use lib.ListN.{length, getD, set};
+ghost use Rattle.spec_checkpoint.specs.Layout.{callsIn, callRecord, heldAtByte};
 ghost use Rattle.spec_checkpoint.specs.Salvage.{namedBy};
 ghost use Rattle.checkpoint_choice.specs.Sized.{Sized};
-use lists::one_if;
+ghost use Rattle.checkpoint_choice.specs.Ranked.{Filled};
+ghost use Rattle.checkpoint_choice.specs.Chained.{shortChain, hasShort, standIn, standInFor, standInNamed, Noted, SomeNoted, counted};
 use numbers::big_endian::get16;
 use numbers::big_endian::get32;
 
-// The connection record at a place names a call by its pair and short ID.
-fn names_call(s: &[u8], at: usize, endpoint: u32, sender: u32, short: u16) -> bool
-    requires { ⌜ at + 18 ≤ length (now s) ⌝ }
-    ensures { λ b. ⌜ b ≡ isUnder (record { endpoint = endpoint; sender = sender; short = short; long = now (s .entry) }) (heldAtByte (now (s .entry)) at) ⌝ }
+// A reference to an array says nothing of its length, and a copy does. The copy is never read, and the compiler leaves
+// it out.
+fn copied(x: [u16; 4096])
+    ensures { λ _. ⌜ length x ≡ 4096 ⌝ }
+{}
+
+pub(crate) fn sized(links: &[u16; 4096])
+    ensures { λ _. ⌜ length (now (links .entry)) ≡ 4096 ⌝ }
 {
-    (get16(s, at + 4) == short) & (get32(s, at) == endpoint) & (get32(s, at + 12) == sender)
+    copied(*links)
 }
 
-// How many do that of call record i. The checkpoint has `calls` and `connections` records.
-pub(crate) fn named_by(s: &[u8], calls: usize, connections: usize, i: usize) -> usize
-    requires { ⌜ Sized (now s) calls connections × (i < calls) ⌝ }
-    ensures { λ n. ⌜ (n ≡ namedBy (now (s .entry)) (callRecord (now (s .entry)) i)) × (n ≤ connections) ⌝ }
+// The chain of a short ID and a pair, one of 2,048.
+fn short_chain(short: u16, endpoint: u32, sender: u32) -> usize
+    ensures { λ r. ⌜ (r ≡ shortChain short endpoint sender) × (r < 2048) ⌝ }
+{
+    let mixed = (endpoint as u64) * 199728483
+        + (sender as u64) * 179213453
+        + (short as u64) * 203459603;
+    (mixed % 4294967296 / 2097152) as usize
+}
+
+// Call record i has this short ID and pair.
+fn is_short(s: &[u8], i: usize, short: u16, endpoint: u32, sender: u32) -> bool
+    requires { ⌜ 4 + 55 * i + 55 ≤ length (now s) ⌝ }
+    ensures { λ b. ⌜ b ≡ hasShort (now (s .entry)) short endpoint sender i ⌝ }
+{
+    let at = 4 + 55 * i;
+    (short == get16(s, at + 1)) & (endpoint == get32(s, at + 3)) & (sender == get32(s, at + 7))
+}
+
+// One more than the record that stands for those, of the records noted, that have a short ID and a pair; 0 where none
+// has them. How many are noted is for the caller to say.
+fn find(
+    s: &[u8],
+    heads: &[u16; 2048],
+    links: &[u16; 4096],
+    short: u16,
+    endpoint: u32,
+    sender: u32,
+) -> usize
+    requires { ⌜ SomeNoted (now s) (now heads) (now links) ⌝ }
+    ensures { λ e. ⌜ ((n : ℕ) → Noted (now (s .entry)) (now (heads .entry)) (now (links .entry)) n → e ≡ standIn (now (s .entry)) n short endpoint sender) ⌝ }
+{
+    let mut e = heads[short_chain(short, endpoint, sender)] as usize;
+    while e != 0 {
+        if is_short(s, e - 1, short, endpoint, sender) {
+            return e;
+        }
+        e = links[e - 1] as usize;
+    }
+    0
+}
+
+// Notes call record i: it is put into its chain, unless an earlier one stands for it.
+fn note_call(s: &[u8], heads: &mut [u16; 2048], links: &mut [u16; 4096], i: usize)
+    requires { ⌜ Noted (now s) (now heads) (now links) i × (4 + 55 * i + 55 ≤ length (now s)) × (i < 4096) ⌝ }
+    ensures { λ _. ⌜ Noted (now (s .entry)) (now (heads .exit)) (now (links .exit)) (i + 1) ⌝ }
 {
     let at = 4 + 55 * i;
     let short = get16(s, at + 1);
     let endpoint = get32(s, at + 3);
     let sender = get32(s, at + 7);
+    if find(s, heads, links, short, endpoint, sender) == 0 {
+        let m = short_chain(short, endpoint, sender);
+        links[i] = heads[m];
+        heads[m] = (i + 1) as u16;
+    }
+}
+
+// Counts the connection record at a place, for the call record that stands for those that it names.
+fn count_connection(
+    s: &[u8],
+    heads: &[u16; 2048],
+    links: &[u16; 4096],
+    counts: &mut [u16; 4096],
+    at: usize,
+)
+    requires { ⌜ Noted (now s) (now heads) (now links) (callsIn (now s)) × (at + 18 ≤ length (now s)) × ((j : ℕ) → getD (now counts) j 0 < 65535) ⌝ }
+    ensures { λ _. ⌜ now (counts .exit) ≡ counted (now (counts .entry)) (standInNamed (now (s .entry)) (callsIn (now (s .entry))) (heldAtByte (now (s .entry)) at)) ⌝ }
+{
+    let e = find(
+        s,
+        heads,
+        links,
+        get16(s, at + 4),
+        get32(s, at),
+        get32(s, at + 12),
+    );
+    if e != 0 {
+        counts[e - 1] = counts[e - 1] + 1;
+    }
+}
+
+// Gives call record i what is counted for the one that stands for it.
+fn count_for(s: &[u8], heads: &[u16; 2048], links: &[u16; 4096], counts: &mut [u16; 4096], i: usize)
+    requires { ⌜ Noted (now s) (now heads) (now links) (callsIn (now s)) × (i < callsIn (now s)) ⌝ }
+    ensures { λ _. ⌜ now (counts .exit) ≡ set (now (counts .entry)) i (getD (now (counts .entry)) (standInFor (now (s .entry)) (callsIn (now (s .entry))) i - 1) 0) ⌝ }
+{
+    let at = 4 + 55 * i;
+    let e = find(
+        s,
+        heads,
+        links,
+        get16(s, at + 1),
+        get32(s, at + 3),
+        get32(s, at + 7),
+    );
+    counts[i] = counts[e - 1];
+}
+
+// How many connection records name each call record. The links are lent, to save stack: what they hold does not matter.
+pub fn named_counts(
+    s: &[u8],
+    links: &mut [u16; 4096],
+    calls: usize,
+    connections: usize,
+) -> [u16; 4096]
+    requires { ⌜ Sized (now s) calls connections × (calls ≤ 4096) × (connections < 65536) ⌝ }
+    ensures { λ m. ⌜ Filled (λ j. namedBy (now (s .entry)) (callRecord (now (s .entry)) j)) m calls ⌝ }
+{
+    sized(links);
+    let mut heads: [u16; 2048] = [0; 2048];
+    let mut counts: [u16; 4096] = [0; 4096];
+    let mut i: usize = 0;
+    while i < calls {
+        note_call(s, &mut heads, links, i);
+        i += 1;
+    }
     let base = 4 + 55 * calls;
-    let mut n: usize = 0;
     let mut k: usize = 0;
     while k < connections {
-        n += one_if(names_call(s, base + 18 * k, endpoint, sender, short));
+        count_connection(s, &heads, links, &mut counts, base + 18 * k);
         k += 1;
     }
-    n
+    i = 0;
+    while i < calls {
+        count_for(s, &heads, links, &mut counts, i);
+        i += 1;
+    }
+    counts
 }

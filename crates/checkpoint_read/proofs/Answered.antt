@@ -2,16 +2,20 @@
 -- Assumes nothing.
 use Prim.Native.Nat.{ℕ, _-_, _<_, _≤_}
 use native.Mathlib.Omega.{arith}
-use mathlib.Core.Path.{_≡_, sym, _∙_}
+use mathlib.Core.Path.{_≡_, sym, ap, _∙_}
 use mathlib.Core.List.{List}
 use mathlib.Core.Bool.{Bool, true, false, _||_}
 use lib.Dec.{eqb}
 use lib.ListN.{length}
 use borrow.Author.Tests.{lt-ltb, le-ltb, eq-eqb, ne-eqb}
+use Rattle.numbers.specs.BigEndian.{Bytes}
 use Rattle.table.specs.declared.answer.RosterAnswer.{RosterAnswer}
 use Rattle.table.specs.Table.{Table}
 use Rattle.table.specs.Lists.{entries, held}
+use Rattle.table.specs.Rules.{rulesHold}
 use Rattle.table.specs.Roster.{rosterNumber, rosterAnswer, freshTable, tableFor, formIn}
+use Rattle.table.proofs.Fresh.{fresh-holds}
+use Rattle.spec_promises.proofs.Demand3 as promises
 use Rattle.spec_checkpoint.specs.Layout.{callsIn, connectionsIn, checkpointSize}
 use Rattle.spec_checkpoint.specs.Salvage.{withCalls, withConnections, salvaged}
 use Rattle.spec_checkpoint.specs.Restored.{Restored, badSize, unrestored, fromCheckpoint, dropsNone, restored}
@@ -53,6 +57,14 @@ module _ (salvage : Bool) (r s : List ℕ) (a : RosterAnswer) (n : ℕ) (fresh :
   fresh-is : n ≡ 0 → fresh ≡ freshTable r
   unfolding tableFor
   fresh-is h = table ∙ rw (accepted h)
+
+  -- the table of an accepted roster keeps the rules and has no call
+  pub fresh-rules : Bytes r → n ≡ 0 → rulesHold fresh ≡ true
+  fresh-rules b h = rw (fresh-is h) (fresh-holds r b (promises.accepted (rosterAnswer r) (sym (number ∙ ap rosterNumber answer) ∙ h)))
+
+  pub fresh-free : n ≡ 0 → fresh .occupied ≡ 0
+  unfolding freshTable
+  fresh-free h = ap (λ t. t .occupied) (fresh-is h)
 
   pub size-refused : n ≡ 0 → badSize s ≡ true → unrestored 70 fresh ≡ restored salvage r s
   unfolding restored

@@ -1,15 +1,18 @@
 -- One record more: a call placed where step 2 keeps it and it fits, a connection added where it fits.
 -- Assumes nothing.
-use Prim.Native.Nat.{ℕ, _+_, _*_}
+use Prim.Native.Nat.{ℕ, zero, suc, _+_, _*_}
 use native.Mathlib.Numerals.{add-one}
 use mathlib.Core.Path.{_≡_, refl}
 use mathlib.Core.List.{List}
-use mathlib.Core.Bool.{Bool, cond, _&&_}
+use mathlib.Core.Bool.{Bool, true, false, cond, not, _&&_}
+use Rattle.lists.proofs.Tests.{both}
 use Rattle.table.specs.Table.{Table}
+use Rattle.table.specs.Word.{isUsed}
 use Rattle.table.specs.Lists.{Held}
+use Rattle.table.specs.Rules.{rulesHold}
 use Rattle.spec_changes.specs.Connections.{added}
 use Rattle.spec_checkpoint.specs.Layout.{callRecord, heldAtByte}
-use Rattle.spec_checkpoint.specs.Salvage.{placed, keptByLongId, callFits, withCalls, connectionFits, withConnections}
+use Rattle.spec_checkpoint.specs.Salvage.{placed, keptByLongId, callFits, callKept, withCalls, connectionFits, withConnections}
 use Rattle.checkpoint_choice.specs.Sized.{Sized}
 
 -- ---- calls
@@ -22,6 +25,19 @@ calls-turn fresh s i t u b e h q = rw (add-one i) (rw (e, h) at q)
 pub calls-none : (fresh : Table) (s : List ℕ) → fresh ≡ withCalls fresh s 0
 unfolding withCalls
 calls-none fresh s = refl
+
+-- the rules hold all along: each call that is kept keeps them
+pub calls-rules : (fresh : Table) (s : List ℕ) → rulesHold fresh ≡ true → (i : ℕ) → rulesHold (withCalls fresh s i) ≡ true
+unfolding withCalls callFits
+calls-rules fresh s h zero = h
+calls-rules fresh s h (suc i) = by (callKept fresh t s i) refl (calls-rules fresh s h i)
+  where
+    t : Table
+    t = withCalls fresh s i
+
+    by : (b : Bool) → callKept fresh t s i ≡ b → rulesHold t ≡ true → rulesHold (cond b (placed t (callRecord s i)) t) ≡ true
+    by true e k = both (not (isUsed (t .occupied) (callRecord s i .slot))) _ (both (keptByLongId fresh s i) (callFits t (callRecord s i)) e .1) .1
+    by false e k = k
 
 -- ---- connections
 

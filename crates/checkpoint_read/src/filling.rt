@@ -1,27 +1,34 @@
 // The table filled from a checkpoint's records, the calls first. The checkpoint has so many of them: its size has been
 // tested, and each count has its bits.
 ghost use mathlib.Core.Path.{_≡_};
+ghost use mathlib.Core.Bool.{true};
 ghost use Prim.Native.Nat.{_<_};
+ghost use Rattle.table.specs.Rules.{rulesHold};
 ghost use Rattle.table.specs.Words.{tableOf};
 ghost use Rattle.spec_checkpoint.specs.Salvage.{withCalls, withConnections};
 ghost use Rattle.checkpoint_choice.specs.Sized.{Sized};
 use checkpoint_choice::choosing::is_best;
-use checkpoint_choice::choosing::named_counts;
+use checkpoint_choice::choosing::long_chains;
 use checkpoint_choice::choosing::sound_flags;
+use checkpoint_choice::naming::named_counts;
 use checkpoint_records::read::connection_record;
 use checkpoint_salvage::adding::with_connection;
 use checkpoint_salvage::placing::with_call;
 use table::layout::Words;
 
+// Into a fresh table, which keeps the rules and has no call.
 pub fn with_calls(t: &mut Words, s: &[u8], calls: usize, connections: usize)
-    requires { ⌜ Sized (now s) calls connections × (connections < 65536) ⌝ }
+    requires { ⌜ Sized (now s) calls connections × (connections < 65536) × (rulesHold (tableOf (now t)) ≡ true) × (tableOf (now t) .occupied ≡ 0) ⌝ }
     ensures { λ _. ⌜ tableOf (now (t .exit)) ≡ withCalls (tableOf (now (t .entry))) (now (s .entry)) calls ⌝ }
 {
     let sound = sound_flags(t, s, calls);
-    let named = named_counts(s, calls, connections);
+    let mut links: [u16; 4096] = [0; 4096];
+    let named = named_counts(s, &mut links, calls, connections);
+    let mut heads: [u16; 2048] = [0; 2048];
+    long_chains(s, &mut heads, &mut links, calls);
     let mut i: usize = 0;
     while i < calls {
-        let best = is_best(s, &sound, &named, calls, i);
+        let best = is_best(s, &heads, &links, &sound, &named, calls, i);
         with_call(t, best, s, i);
         i += 1;
     }

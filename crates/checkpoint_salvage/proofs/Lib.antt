@@ -1,2 +1,4 @@
 pub mod Placed
+pub mod Stands
+pub mod Records
 pub mod Fitting

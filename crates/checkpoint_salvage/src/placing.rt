@@ -1,23 +1,37 @@
 // One call of a checkpoint: whether it can stand in the table, alone and beside others. The records lie within the
 // checkpoint: its size has been tested.
 ghost use mathlib.Core.Path.{_≡_};
-ghost use mathlib.Core.Bool.{cond, true, _&&_};
+ghost use mathlib.Core.Bool.{cond, true, false, _&&_};
 ghost use Prim.Native.Nat.{_+_, _*_, _≤_, _<_};
 ghost use lib.ListN.{length};
+ghost use Rattle.objects.specs.Part.{Within};
 ghost use Rattle.table.specs.Total.{total};
-ghost use Rattle.table.specs.Rules.{rulesHold};
+ghost use Rattle.table.specs.Word.{isUsed};
+ghost use Rattle.table.specs.Lists.{idsOf};
+ghost use Rattle.table.specs.Rules.{validIds, callFreeClear, rulesHold};
 ghost use Rattle.table.specs.Words.{tableOf};
+ghost use Rattle.spec_calls.specs.CallRules.{idsIn};
 ghost use Rattle.spec_checkpoint.specs.Layout.{callRecord};
 ghost use Rattle.spec_checkpoint.specs.Salvage.{placed, soundAlone, callFits};
 use checkpoint_records::read::record_slot;
 use checkpoint_records::read::record_words;
-use rules::rules_hold;
+use find_call::request::look_up;
+use find_call::share::listing_of;
+use find_call::share::share_used_up;
+use lists::to_usize;
+use messages::message::CallRequest;
+use numbers::big_endian::get16;
+use numbers::big_endian::get24;
+use numbers::big_endian::get32;
+use numbers::search::zeros;
+use objects::fields::CallId;
+use objects::fields::MessageId;
+use objects::fields::Part;
 use table::layout::SLOTS;
 use table::layout::Words;
 use table::word::is_used;
 use table::word::with_used;
 use table_words::calls::put_slot;
-use table_words::calls::slot_words;
 use table_words::head::occupied;
 use table_words::head::set_occupied;
 
@@ -32,49 +46,98 @@ fn place(t: &mut Words, s: &[u8], i: usize, slot: usize)
     set_occupied(t, word)
 }
 
-// Whether the rules hold of the table with the call. It is placed and taken out again: the table is left as it was.
-fn holds_with(t: &mut Words, s: &[u8], i: usize, slot: usize) -> bool
-    requires { ⌜ (4 + 55 * i + 55 ≤ length (now s)) × (slot ≡ callRecord (now s) i .slot) × (slot < total) ⌝ }
-    ensures { λ b. ⌜ (b ≡ rulesHold (placed (tableOf (now (t .entry))) (callRecord (now (s .entry)) i))) × (tableOf (now (t .exit)) ≡ tableOf (now (t .entry))) ⌝ }
+// Record i's numbers are those of a call: a Call ID other than 0, a name of 1 to 32 bytes that ends in a byte that is
+// not zero, with zeros behind it, and nothing in what is not in use yet.
+fn tidy(s: &[u8], i: usize) -> bool
+    requires { ⌜ 4 + 55 * i + 55 ≤ length (now s) ⌝ }
+    ensures { λ b. ⌜ b ≡ (validIds (callRecord (now (s .entry)) i .call) && callFreeClear (callRecord (now (s .entry)) i .call)) ⌝ }
 {
-    let word = occupied(t);
-    let call = slot_words(t, slot);
-    place(t, s, i, slot);
-    let holds = rules_hold(t);
-    put_slot(t, slot, &call);
-    set_occupied(t, word);
-    holds
+    let at = 4 + 55 * i;
+    // the made mark is the top bit: without it, the byte is the name's length
+    let size = to_usize(s[at + 11]);
+    let sized = (0 < size) & (size <= 32);
+    if !sized {
+        return false;
+    }
+    let ends = s[at + 11 + size] != 0;
+    let clear = zeros(s, at + 12 + size, 32 - size);
+    let unused = (get32(s, at + 44) == 0) & (get24(s, at + 48) == 0) & (get32(s, at + 51) == 0);
+    (get16(s, at + 1) != 0) & ends & clear & unused
 }
 
-// A record's call could stand in a fresh table by itself.
-pub fn sound_alone(t: &mut Words, s: &[u8], i: usize) -> bool
-    requires { ⌜ 4 + 55 * i + 55 ≤ length (now s) ⌝ }
-    ensures { λ b. ⌜ (b ≡ soundAlone (tableOf (now (t .entry))) (callRecord (now (s .entry)) i)) × (tableOf (now (t .exit)) ≡ tableOf (now (t .entry))) ⌝ }
+// The IDs of a tidy record as a request has them. There are no objects of a message: those parts are empty.
+fn record_request(s: &[u8], i: usize) -> CallRequest
+    requires { ⌜ (4 + 55 * i + 55 ≤ length (now s)) × (callRecord (now s) i .call .size ≤ 32) ⌝ }
+    ensures { λ q. ⌜ (idsIn (now (s .entry)) q ≡ idsOf (callRecord (now (s .entry)) i .call)) × Within (now (s .entry)) (q .name) × (q .name .size ≤ 32) ⌝ }
+{
+    let at = 4 + 55 * i;
+    let size = to_usize(s[at + 11]) % 128;
+    CallRequest {
+        endpoint: get32(s, at + 3),
+        sender: get32(s, at + 7),
+        call: CallId(get16(s, at + 1)),
+        name: Part { at: at + 12, size },
+        sequence: MessageId {
+            epoch: 0,
+            identifier: 0,
+        },
+        session: Part { at: 0, size: 0 },
+        attribute: Part { at: 0, size: 0 },
+        template: Part { at: 0, size: 0 },
+    }
+}
+
+// Whether record i's call could stand in a free slot beside the calls in the table: its numbers are those of a call, its
+// sender is listed and has room, and neither ID is in use in its pair. The table keeps its rules, so that no other is
+// asked again.
+fn stands(t: &Words, s: &[u8], i: usize) -> bool
+    requires { ⌜ (4 + 55 * i + 55 ≤ length (now s)) × (rulesHold (tableOf (now t)) ≡ true) × (callRecord (now s) i .slot < total) × (isUsed (tableOf (now t) .occupied) (callRecord (now s) i .slot) ≡ false) ⌝ }
+    ensures { λ b. ⌜ b ≡ rulesHold (placed (tableOf (now (t .entry))) (callRecord (now (s .entry)) i)) ⌝ }
+{
+    if !tidy(s, i) {
+        return false;
+    }
+    let q = record_request(s, i);
+    let m = listing_of(t, q.sender);
+    if !m.known {
+        return false;
+    }
+    if share_used_up(t, q.sender) {
+        return false;
+    }
+    let look = look_up(t, s, q);
+    !look.long & !look.short
+}
+
+// A record's call could stand in a fresh table by itself. No slot of a fresh table is used.
+pub fn sound_alone(t: &Words, s: &[u8], i: usize) -> bool
+    requires { ⌜ (4 + 55 * i + 55 ≤ length (now s)) × (rulesHold (tableOf (now t)) ≡ true) × (tableOf (now t) .occupied ≡ 0) ⌝ }
+    ensures { λ b. ⌜ b ≡ soundAlone (tableOf (now (t .entry))) (callRecord (now (s .entry)) i) ⌝ }
 {
     let slot = record_slot(s, i);
     let inside = slot < SLOTS;
     if !inside {
         return false;
     }
-    holds_with(t, s, i, slot)
+    stands(t, s, i)
 }
 
 // It fits beside those that are in the table.
-fn call_fits(t: &mut Words, s: &[u8], i: usize, slot: usize) -> bool
-    requires { ⌜ (4 + 55 * i + 55 ≤ length (now s)) × (slot ≡ callRecord (now s) i .slot) × (slot < total) ⌝ }
-    ensures { λ b. ⌜ (b ≡ callFits (tableOf (now (t .entry))) (callRecord (now (s .entry)) i)) × (tableOf (now (t .exit)) ≡ tableOf (now (t .entry))) ⌝ }
+fn call_fits(t: &Words, s: &[u8], i: usize, slot: usize) -> bool
+    requires { ⌜ (4 + 55 * i + 55 ≤ length (now s)) × (rulesHold (tableOf (now t)) ≡ true) × (slot ≡ callRecord (now s) i .slot) × (slot < total) ⌝ }
+    ensures { λ b. ⌜ b ≡ callFits (tableOf (now (t .entry))) (callRecord (now (s .entry)) i) ⌝ }
 {
     let used = is_used(occupied(t), slot);
     if used {
         return false;
     }
-    holds_with(t, s, i, slot)
+    stands(t, s, i)
 }
 
 // A record's call placed, where it is the one kept of its pair and long Call ID (`best`) and fits. Such a record names
-// one of the slots.
+// one of the slots. The rules hold of a fresh table, and go on to hold with each call that fits.
 pub fn with_call(t: &mut Words, best: bool, s: &[u8], i: usize)
-    requires { ⌜ (4 + 55 * i + 55 ≤ length (now s)) × (best ≡ true → callRecord (now s) i .slot < total) ⌝ }
+    requires { ⌜ (4 + 55 * i + 55 ≤ length (now s)) × (rulesHold (tableOf (now t)) ≡ true) × (best ≡ true → callRecord (now s) i .slot < total) ⌝ }
     ensures { λ _. ⌜ tableOf (now (t .exit)) ≡ cond (best && callFits (tableOf (now (t .entry))) (callRecord (now (s .entry)) i)) (placed (tableOf (now (t .entry))) (callRecord (now (s .entry)) i)) (tableOf (now (t .entry))) ⌝ }
 {
     if !best {

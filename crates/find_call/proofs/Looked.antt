@@ -1,22 +1,23 @@
 -- What the look-up of a request knows after some of the slots.
 -- Assumes nothing.
-use Prim.Native.Nat.{ℕ, _+_}
-use mathlib.Core.Path.{_≡_, refl, sym, _∙_}
-use mathlib.Core.Bool.{Bool, true, false, cond, _&&_, _||_}
+use Prim.Native.Nat.{ℕ, _+_, _≤_}
+use mathlib.Core.Path.{_≡_, refl, sym}
+use mathlib.Core.Bool.{Bool, true, false, cond, not, _&&_, _||_, or-false}
 use Rattle.lists.specs.Count.{has}
 use Rattle.lists.specs.Below.{below, placeOf}
 use Rattle.lists.proofs.Below.{has-none, has-element, has-turn, has-turns}
-use Rattle.lists.proofs.Search.{place-none, place-turn}
-use Rattle.table.specs.Table.{Table}
-use Rattle.table.specs.Total.{totalOf}
-use Rattle.table.specs.Word.{isUsed}
+use Rattle.lists.proofs.Search.{place-none, place-turn, place-rest}
+use Rattle.table.specs.Table.{Call, Table}
+use Rattle.table.specs.Total.{total}
+use Rattle.table.specs.Word.{isUsed, FreeFrom}
 use Rattle.table.specs.Lists.{Ids, Entry, callAt, idsOf, openAt, callFour, heldIn, heldAt}
 use Rattle.table.specs.Rules.{sameShort, sameLong}
+use Rattle.table.proofs.Slots.{open-free, open-rest, held-rest}
 use Rattle.spec_changes.specs.Calls.{isCall}
 use Rattle.spec_changes.specs.Connections.{isUnder}
 use Rattle.spec_calls.specs.CallRules.{isOpen, shortInUse, longInUse}
 use Rattle.find_call.specs.declared.request.Look.{Look}
-use Rattle.find_call.specs.Looks.{lookOf}
+use Rattle.find_call.specs.Looks.{lookOf, lookWith}
 
 -- what a look says, of the first `i` slots alone
 pub record Looked (t : Table) (c : Ids) (i : ℕ) (w : Look) : Type 0 where
@@ -36,29 +37,43 @@ module _ (t : Table) (c : Ids) where
     slot = sym (place-none (openAt t) (isCall c));
   }
 
-  -- one more slot: what its call says (`l`, `s`, `b`), and the slot select
-  pub look-turn : (i n m : ℕ) (l s b : Bool) (w : Look) → Looked t c i w
-      → l ≡ (isUsed (t .occupied) i && sameLong c (idsOf (callAt t i)))
-      → s ≡ (isUsed (t .occupied) i && sameShort c (idsOf (callAt t i)))
-      → b ≡ (isUsed (t .occupied) i && has (isUnder c) (heldIn (callFour (callAt t i))))
-      → n ≡ cond (s && l) i 0 → m ≡ cond (w .known) (w .slot) n
-      → Looked t c (i + 1) (record { known = w .known || s && l; long = w .long || l; short = w .short || s; busy = w .busy || b; slot = m })
-  look-turn i n m l s b w h le se be ne me =
+  -- one more slot
+  pub look-turn : (i : ℕ) (used : Bool) (w : Look) → used ≡ isUsed (t .occupied) i → Looked t c i w → Looked t c (i + 1) (lookWith w i used (callAt t i) c)
+  unfolding lookWith
+  look-turn i used w e h =
       let u = isUsed (t .occupied) i in
       let x : Entry = record { slot = i; ids = idsOf (callAt t i) } in
-      let here : (s && l) ≡ (u && isCall c x) = rw (le, se) (by u (sameShort c (x .ids)) (sameLong c (x .ids))) in
-      record {
-        known = has-turn (openAt t) (isCall c) i (w .known) (s && l) u x refl (h .known) here;
-        long = has-turn (openAt t) (λ e. sameLong c (e .ids)) i (w .long) l u x refl (h .long) le;
-        short = has-turn (openAt t) (λ e. sameShort c (e .ids)) i (w .short) s u x refl (h .short) se;
-        busy = has-turns (heldAt t) (isUnder c) i (w .busy) b u (heldIn (callFour (callAt t i))) refl (h .busy) be;
-        slot = rw (me, ne) (place-turn (openAt t) (isCall c) i (w .slot) (w .known) (s && l) (h .known) (h .slot) (here ∙ sym (has-element (isCall c) u x)));
-      }
+      rw e
+      (record {
+        known = has-turn (openAt t) (isCall c) i (w .known) (u && isCall c x) u x refl (h .known) refl;
+        long = has-turn (openAt t) (λ e. sameLong c (e .ids)) i (w .long) _ u x refl (h .long) refl;
+        short = has-turn (openAt t) (λ e. sameShort c (e .ids)) i (w .short) _ u x refl (h .short) refl;
+        busy = has-turns (heldAt t) (isUnder c) i (w .busy) _ u (heldIn (callFour (callAt t i))) refl (h .busy) refl;
+        slot = place-turn (openAt t) (isCall c) i (w .slot) (w .known) (u && isCall c x) (h .known) (h .slot) (sym (has-element (isCall c) u x));
+      })
+
+  -- the slots behind the last used one say nothing
+  pub look-all : (n : ℕ) (w : Look) → n ≤ total → FreeFrom (t .occupied) n → Looked t c n w → w ≡ lookOf t c
+  unfolding lookOf
+  look-all n w l free h =
+      rw (open-rest t n l free, held-rest t n l free, place-rest (openAt t) (isCall c) n total l (open-free t n free), ← (h .known), ← (h .long), ← (h .short), ← (h .busy), ← (h .slot))
+
+module _ (w : Look) (i : ℕ) (used : Bool) (d : Call) (c : Ids) where
+  -- whether a slot has the long ID, the short ID, and connections under that
+  abbrev Says : Bool → Bool → Bool → Type 0
+  Says l s b = (l ≡ (used && sameLong c (idsOf d))) × (s ≡ (used && sameShort c (idsOf d))) × (b ≡ (used && has (isUnder c) (heldIn (callFour d))))
+
+  pub look-changed : (n : ℕ) (l s b : Bool) → Says l s b → n ≡ cond (s && l && not (w .known)) i (w .slot)
+      → record { known = w .known || s && l; long = w .long || l; short = w .short || s; busy = w .busy || b; slot = n } ≡ lookWith w i used d c
+  unfolding lookWith
+  look-changed n l s b h e =
+      let here : (s && l) ≡ (used && (sameShort c (idsOf d) && sameLong c (idsOf d))) = rw (h .0, h .1) (by used (sameShort c (idsOf d)) (sameLong c (idsOf d))) in
+      rw (e, here, h .0, h .1, h .2)
     where
       by : (u a b : Bool) → (u && a && (u && b)) ≡ (u && (a && b))
       by true a b = refl
       by false a b = refl
 
-  pub look-all : (w : Look) → Looked t c (totalOf t) w → w ≡ lookOf t c
-  unfolding lookOf
-  look-all w h = rw (← (h .known), ← (h .long), ← (h .short), ← (h .busy), ← (h .slot))
+  -- a slot that has none of them changes nothing
+  pub look-kept : Says false false false → w ≡ lookWith w i used d c
+  look-kept h = rw (or-false (w .known), or-false (w .long), or-false (w .short), or-false (w .busy)) at (look-changed (w .slot) false false false h refl)

@@ -7,7 +7,7 @@ use mathlib.Core.Path.{_≡_, sym, ap, _∙_}
 use mathlib.Core.List.{List, _++_}
 use mathlib.Core.Bool.{true, _&&_}
 use lib.Dec.{eqb}
-use lib.ListN.{length, take, drop, replicate, take-append-drop}
+use lib.ListN.{length, take, drop, replicate}
 use lib.Seq.{length-take-le, take-at}
 use borrow.Author.Tests.{eq-eqb, eqb-true}
 use Rattle.numbers.specs.Search.{zerosAt}
@@ -16,25 +16,17 @@ use Rattle.lists.proofs.Tests.{both}
 use Rattle.table.specs.Rules.{sameBytes}
 use Rattle.table.proofs.SameBytes.{same-bytes}
 use Rattle.table.proofs.Names.{alike, same-self}
-use Rattle.table_words.proofs.NameBytes.{zeros-drop}
+use Rattle.table_words.proofs.Padded.{padded, name-padded}
 
 drop-zeros : (n k : ℕ) → drop n (replicate {A = ℕ} (n + k) 0) ≡ replicate k 0
 drop-zeros zero k = rw zero-add
 drop-zeros (suc n) k = rw suc-add (drop-zeros n k)
-
--- bytes with zeros behind them, 32 in all
-abbrev padded : List ℕ → List ℕ
-padded x = x ++ replicate (32 - length x) 0
 
 at-front : (x : List ℕ) → length x ≤ 32 → atFront x (replicate 32 0) ≡ padded x
 unfolding atFront
 at-front x h =
     let t : 32 ≡ length x + (32 - length x) = omega arith in
     ap (λ (z : List ℕ). x ++ z) (ap (λ (k : ℕ). drop (length x) (replicate {A = ℕ} k 0)) t ∙ drop-zeros (length x) (32 - length x))
-
--- a name in the table
-name-padded : (y : List ℕ) (m : ℕ) → length y ≡ 32 → m ≤ 32 → zerosAt y m (32 - m) ≡ true → y ≡ take m y ++ replicate (32 - m) 0
-name-padded y m l f z = sym (take-append-drop m y) ∙ ap (λ (r : List ℕ). take m y ++ r) (zeros-drop y m (32 - m) (omega arith) z)
 
 -- a request's name against one of the table: sizes and all 32 bytes
 pub names-whole : (x y : List ℕ) (m : ℕ) → length x ≤ 32 → length y ≡ 32 → m ≤ 32 → zerosAt y m (32 - m) ≡ true
@@ -45,7 +37,7 @@ names-whole x y m f l g z = alike _ _ part whole
     whole h =
         let e = same-bytes x (take m y) h in
         let s : length x ≡ m = ap length e ∙ length-take-le m y (omega arith) in
-        let q : atFront x (replicate 32 0) ≡ y = at-front x f ∙ rw (s, e) (sym (name-padded y m l g z)) in
+        let q : atFront x (replicate 32 0) ≡ y = at-front x f ∙ ap padded e ∙ sym (name-padded y m l z) in
         rw (eq-eqb (length x) m s, q) (same-self y)
 
     part : (eqb (length x) m && sameBytes (atFront x (replicate 32 0)) y) ≡ true → sameBytes x (take m y) ≡ true

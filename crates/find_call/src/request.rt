@@ -1,25 +1,23 @@
 // The open calls beside a request.
 ghost use mathlib.Core.Path.{_≡_};
-ghost use mathlib.Core.Bool.{true, _&&_};
+ghost use mathlib.Core.Bool.{true};
 ghost use Prim.Native.Nat.{_<_, _≤_};
 ghost use lib.ListN.{replicate};
-ghost use Rattle.lists.specs.Count.{has};
 ghost use Rattle.numbers.specs.Buffer.{atFront};
 ghost use Rattle.objects.specs.Part.{partOf, Within};
 ghost use Rattle.table.specs.Total.{total};
 ghost use Rattle.table.specs.Word.{isUsed};
-ghost use Rattle.table.specs.Lists.{callAt, idsOf, callFour, heldIn};
-ghost use Rattle.table.specs.Rules.{sameShort, sameLong, rulesHold};
+ghost use Rattle.table.specs.Lists.{callAt};
+ghost use Rattle.table.specs.Rules.{rulesHold};
 ghost use Rattle.table.specs.Words.{nameAtWord, tableOf};
-ghost use Rattle.spec_changes.specs.Connections.{isUnder};
 ghost use Rattle.spec_calls.specs.CallRules.{idsIn};
-ghost use Rattle.find_call.specs.Looks.{lookOf};
+ghost use Rattle.find_call.specs.Looks.{lookOf, lookWith};
 use fours::has_taken;
 use lists::select;
 use messages::message::CallRequest;
-use table::layout::SLOTS;
 use table::layout::Words;
 use table::word::is_used;
+use table::word::used_below;
 use table_words::calls::call_head;
 use table_words::calls::is_named;
 use table_words::fours::call_four;
@@ -38,32 +36,36 @@ pub struct Look {
     pub slot: usize,
 }
 
-// The same of one slot.
-struct Match {
-    long: bool,
-    short: bool,
-    busy: bool,
-}
-
-// One slot beside a request. Only the calls of its pair are looked at more closely. Names are compared as the table's
-// words: by the table rules, zeros stand behind a name.
-fn match_slot(used: bool, t: &Words, i: usize, msg: &[u8], q: CallRequest, name: &[u32; 8]) -> Match
+// A look with one slot more. Only a call of the request's pair changes it. Names are compared as the table's words: by
+// the table rules, zeros stand behind a name.
+fn looked(
+    look: Look,
+    used: bool,
+    t: &Words,
+    i: usize,
+    msg: &[u8],
+    q: CallRequest,
+    name: &[u32; 8],
+) -> Look
     requires { ⌜ (i < total) × (used ≡ isUsed (tableOf (now t) .occupied) i) × (rulesHold (tableOf (now t)) ≡ true) × Within (now msg) (q .name) × (q .name .size ≤ 32) × (nameAtWord (now name) 0 ≡ atFront (partOf (now msg) (q .name)) (replicate 32 0)) ⌝ }
-    ensures { λ r. ⌜ (r .long ≡ (used && sameLong (idsIn (now (msg .entry)) q) (idsOf (callAt (tableOf (now (t .entry))) i)))) × (r .short ≡ (used && sameShort (idsIn (now (msg .entry)) q) (idsOf (callAt (tableOf (now (t .entry))) i)))) × (r .busy ≡ (used && has (isUnder (idsIn (now (msg .entry)) q)) (heldIn (callFour (callAt (tableOf (now (t .entry))) i))))) ⌝ }
+    ensures { λ r. ⌜ r ≡ lookWith look i used (callAt (tableOf (now (t .entry))) i) (idsIn (now (msg .entry)) q) ⌝ }
 {
     let c = call_head(t, i);
     let pair = used & ((q.endpoint == c.endpoint) & (q.sender == c.sender));
     if !pair {
-        return Match {
-            long: false,
-            short: false,
-            busy: false,
-        };
+        return look;
     }
     let short = is_call(q.call, c.id);
     let busy = short & has_taken(t, call_four(t, i));
     let long = is_size(q.name.size, c.size) & is_named(t, i, name);
-    Match { long, short, busy }
+    let here = short & long;
+    Look {
+        known: look.known | here,
+        long: look.long | long,
+        short: look.short | short,
+        busy: look.busy | busy,
+        slot: select(here & !look.known, i, look.slot),
+    }
 }
 
 // The rules hold, and the request's name lies within the message: its reading promises that.
@@ -72,28 +74,19 @@ pub fn look_up(t: &Words, msg: &[u8], q: CallRequest) -> Look
     ensures { λ r. ⌜ r ≡ lookOf (tableOf (now (t .entry))) (idsIn (now (msg .entry)) q) ⌝ }
 {
     let word = occupied(t);
+    let n = used_below(word);
     let name = name_words(msg, q.name.at, q.name.size);
-    let mut known = false;
-    let mut long = false;
-    let mut short = false;
-    let mut busy = false;
-    let mut slot: usize = 0;
+    let mut look = Look {
+        known: false,
+        long: false,
+        short: false,
+        busy: false,
+        slot: 0,
+    };
     let mut i: usize = 0;
-    while i < SLOTS {
-        let m = match_slot(is_used(word, i), t, i, msg, q, &name);
-        let here = m.short & m.long;
-        slot = select(known, slot, select(here, i, 0));
-        known = known | here;
-        long = long | m.long;
-        short = short | m.short;
-        busy = busy | m.busy;
+    while i < n {
+        look = looked(look, is_used(word, i), t, i, msg, q, &name);
         i += 1;
     }
-    Look {
-        known,
-        long,
-        short,
-        busy,
-        slot,
-    }
+    look
 }

@@ -10,10 +10,10 @@ use lists::one_if;
 use lists::select;
 use rule_limits::share_sums;
 use table::layout::CUSTOMERS;
-use table::layout::SLOTS;
 use table::layout::TOTAL;
 use table::layout::Words;
 use table::word::is_used;
+use table::word::used_below;
 use table_words::calls::call_head;
 use table_words::customers::customer_head;
 use table_words::head::listed;
@@ -54,14 +54,15 @@ fn calls_of(t: &Words, address: u32) -> usize
     ensures { λ r. ⌜ r ≡ callsOf (entries (tableOf (now (t .entry)))) address ⌝ }
 {
     let word = occupied(t);
-    let mut n: usize = 0;
+    let n = used_below(word);
+    let mut calls: usize = 0;
     let mut i: usize = 0;
-    while i < SLOTS {
+    while i < n {
         let c = call_head(t, i);
-        n += one_if(is_used(word, i) & (c.sender == address));
+        calls += one_if(is_used(word, i) & (c.sender == address));
         i += 1;
     }
-    n
+    calls
 }
 
 // Answer 34: at the limit, or at the guarantee with no room left.

@@ -1,3 +1,4 @@
 pub mod Match
 pub mod Rows
+pub mod Looked
 pub mod Looks

@@ -10,9 +10,10 @@ use Rattle.lists.specs.Count.{countIf, has}
 use Rattle.lists.proofs.Count.{false-has}
 use Rattle.lists.proofs.Shown.{has-shown}
 use Rattle.lists.proofs.Tests.{both}
-use Rattle.table.specs.Lists.{Lsp, Held, Four, placeAt, isTaken, connectionAt, heldIn}
+use Rattle.table.specs.Table.{Call}
+use Rattle.table.specs.Lists.{idsOf, Lsp, Held, Four, placeAt, isTaken, connectionAt, heldIn}
 use Rattle.table.specs.Rules.{sameLsp, isLsp}
-use Rattle.spec_changes.specs.Connections.{sameFour}
+use Rattle.spec_changes.specs.Connections.{sameFour, isUnder}
 use Rattle.spec_changes.proofs.Everywhere.{none-in}
 use Rattle.spec_calls.specs.PathRules.{underOther}
 use Rattle.find_connection.specs.Looks.{Matched}
@@ -55,3 +56,8 @@ module _ (x : Held) (f : Four) where
       → Matched used x (heldIn f) (held && not own) held four
   match-all used held own four h e o c l =
       rw (both used (eqb (x .lsp .sender) (f .sender)) (not-false _ h) .0, e, o) (sym other-held, refl, c, omega arith)
+
+-- nor is the call of such a slot the connection's
+pub named-none : (x : Held) (c : Call) (used : Bool) → not (used && eqb (x .lsp .sender) (c .sender)) ≡ true → false ≡ (used && isUnder (idsOf c) x)
+named-none x c true h = rw (not-true (eqb (x .lsp .sender) (c .sender)) h, and-false (eqb (x .call) (c .id) && eqb (x .lsp .endpoint) (c .endpoint)))
+named-none x c false h = refl

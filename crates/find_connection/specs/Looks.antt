@@ -1,17 +1,17 @@
 -- What the look-up of a connection finds: the tests of Path and PathTear, and where the connection and its call stand,
 -- in the rules' own words.
-use Prim.Native.Nat.{ℕ, _≤_}
+use Prim.Native.Nat.{ℕ, _+_, _≤_}
 use mathlib.Core.Path.{_≡_}
 use mathlib.Core.List.{List}
-use mathlib.Core.Bool.{Bool, cond, _&&_}
+use mathlib.Core.Bool.{Bool, cond, not, _&&_, _||_}
 use Rattle.lists.specs.Count.{countIf, has}
 use Rattle.lists.specs.Below.{below, placeOf}
-use Rattle.table.specs.Table.{Table}
+use Rattle.table.specs.Table.{Call, Table}
 use Rattle.table.specs.Total.{totalOf}
-use Rattle.table.specs.Lists.{entries, Lsp, Held, heldAt, standaloneAt}
+use Rattle.table.specs.Lists.{idsOf, entries, Lsp, Held, callFour, heldIn, heldAt, standaloneAt}
 use Rattle.table.specs.Rules.{isLsp}
 use Rattle.spec_changes.specs.Calls.{slotOf}
-use Rattle.spec_changes.specs.Connections.{sameFour, isCallOf}
+use Rattle.spec_changes.specs.Connections.{sameFour, isUnder, isCallOf}
 use Rattle.spec_calls.specs.PathRules.{underOther}
 use Rattle.find_connection.specs.declared.four.Found.{Found}
 use Rattle.find_connection.specs.declared.under.UnderLook.{UnderLook}
@@ -43,6 +43,16 @@ underLookOf t x = record {
   four = countIf (sameFour x) (below (heldAt t) (totalOf t));
   known = has (isCallOf x) (entries t);
   slot = slotOf t (isCallOf x);
+}
+
+-- a look with one slot more, where that is used: its call, beside the connection
+unfoldable pub underLookWith : UnderLook → ℕ → Bool → Call → Held → UnderLook
+underLookWith w i used c x = record {
+  other = w .other || (used && has (underOther x) (heldIn (callFour c)));
+  held = w .held || (used && has (isLsp (x .lsp)) (heldIn (callFour c)));
+  four = w .four + cond used (countIf (sameFour x) (heldIn (callFour c))) 0;
+  known = w .known || (used && isUnder (idsOf c) x);
+  slot = cond (used && isUnder (idsOf c) x && not (w .known)) i (w .slot);
 }
 
 unfoldable pub standaloneLookOf : Table → Held → StandaloneLook

@@ -24,7 +24,7 @@ pub fn find_standalone(t: &Words, x: Lsp) -> Found
     let mut k: usize = 0;
     while k < CUSTOMERS {
         let here = holds(k < n, t, customer_four(t, k), x);
-        at = select(held, at, select(here, k, 0));
+        at = select(here & !held, k, at);
         held = held | here;
         k += 1;
     }

@@ -1,12 +1,12 @@
 // The connections under the open calls.
 ghost use mathlib.Core.Path.{_≡_};
-ghost use Prim.Native.Nat.{_<_};
+ghost use Prim.Native.Nat.{_+_, _*_, _≤_, _<_};
 ghost use Rattle.table.specs.Total.{total};
 ghost use Rattle.table.specs.Lists.{callAt, idsOf};
 ghost use Rattle.table.specs.Words.{tableOf};
 ghost use Rattle.spec_changes.specs.Connections.{isNamed};
 ghost use Rattle.spec_calls.specs.PathRules.{lspOf, heldBy};
-ghost use Rattle.find_connection.specs.Looks.{underFoundOf, underLookOf};
+ghost use Rattle.find_connection.specs.Looks.{underFoundOf, underLookOf, underLookWith};
 use crate::four::Found;
 use crate::four::holds;
 use crate::four::match_four;
@@ -14,9 +14,9 @@ use lists::select;
 use messages::message::Connection;
 use messages::message::Lsp;
 use objects::fields::CallId;
-use table::layout::SLOTS;
 use table::layout::Words;
 use table::word::is_used;
+use table::word::used_below;
 use table_words::calls::call_head;
 use table_words::fours::call_four;
 use table_words::head::occupied;
@@ -27,13 +27,14 @@ pub fn find_under(t: &Words, x: Lsp) -> Found
     ensures { λ r. ⌜ r ≡ underFoundOf (tableOf (now (t .entry))) (lspOf x) ⌝ }
 {
     let word = occupied(t);
+    let n = used_below(word);
     let mut held = false;
     let mut at: usize = 0;
     let mut i: usize = 0;
-    while i < SLOTS {
+    while i < n {
         let used = is_used(word, i);
         let here = holds(used, t, call_four(t, i), x);
-        at = select(held, at, select(here, i, 0));
+        at = select(here & !held, i, at);
         held = held | here;
         i += 1;
     }
@@ -59,32 +60,43 @@ fn is_named(t: &Words, i: usize, call: CallId, endpoint: u32, sender: u32) -> bo
     is_call(call, c.id) & (endpoint == c.endpoint) & (sender == c.sender)
 }
 
+// A look with one slot more. Only a call of the connection's sender changes it. No slot adds more than four.
+fn looked(look: UnderLook, used: bool, t: &Words, i: usize, x: Connection) -> UnderLook
+    requires { ⌜ (i < total) × (look .four ≤ 4 * i) ⌝ }
+    ensures { λ r. ⌜ (r ≡ underLookWith look i used (callAt (tableOf (now (t .entry))) i) (heldBy x)) × (r .four ≤ look .four + 4) ⌝ }
+{
+    let f = call_four(t, i);
+    if !(used & (x.lsp.sender == f.sender)) {
+        return look;
+    }
+    let m = match_four(true, t, f, x);
+    let here = is_named(t, i, x.call, x.lsp.endpoint, x.lsp.sender);
+    let four = look.four + m.four;
+    UnderLook {
+        other: look.other | m.other,
+        held: look.held | m.held,
+        four,
+        known: look.known | here,
+        slot: select(here & !look.known, i, look.slot),
+    }
+}
+
 pub fn look_under(t: &Words, x: Connection) -> UnderLook
     ensures { λ r. ⌜ r ≡ underLookOf (tableOf (now (t .entry))) (heldBy x) ⌝ }
 {
     let word = occupied(t);
-    let mut other = false;
-    let mut held = false;
-    let mut four: usize = 0;
-    let mut known = false;
-    let mut slot: usize = 0;
+    let n = used_below(word);
+    let mut look = UnderLook {
+        other: false,
+        held: false,
+        four: 0,
+        known: false,
+        slot: 0,
+    };
     let mut i: usize = 0;
-    while i < SLOTS {
-        let used = is_used(word, i);
-        let m = match_four(used, t, call_four(t, i), x);
-        let here = used & is_named(t, i, x.call, x.lsp.endpoint, x.lsp.sender);
-        slot = select(known, slot, select(here, i, 0));
-        other = other | m.other;
-        held = held | m.held;
-        known = known | here;
-        four += m.four;
+    while i < n {
+        look = looked(look, is_used(word, i), t, i, x);
         i += 1;
     }
-    UnderLook {
-        other,
-        held,
-        four,
-        known,
-        slot,
-    }
+    look
 }

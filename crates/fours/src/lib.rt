@@ -1,27 +1,22 @@
 // Four places for connections, a call's or a customer's of Call ID 0, by where they stand. Here and below, a four lies
 // within the table: `call_four` and `customer_four` promise that.
 ghost use mathlib.Core.Path.{_≡_};
-ghost use mathlib.Core.Bool.{true, cond, not, _&&_};
+ghost use mathlib.Core.Bool.{true, cond, not};
 ghost use Prim.Native.Nat.{_+_, _≤_, _<_};
-ghost use Rattle.lists.specs.Count.{bit, countIf, has, noTwo};
-ghost use Rattle.lists.specs.Below.{everyBelow, firstBelow};
-ghost use Rattle.lists.specs.Pairs.{meet};
-ghost use Rattle.table.specs.Lists.{placeAt, isTaken, connectionAt, heldIn};
-ghost use Rattle.table.specs.Rules.{sameConnection, placeValid, fourValid};
+ghost use Rattle.lists.specs.Count.{bit, countIf, has};
+ghost use Rattle.lists.specs.Below.{firstBelow};
+ghost use Rattle.table.specs.Lists.{placeAt, isTaken, heldIn};
+ghost use Rattle.table.specs.Rules.{placeValid, fourValid};
 ghost use Rattle.table_words.specs.Fours.{fourAtWord, placeOfWords, FourInside};
-ghost use Rattle.fours.specs.Apart.{apart};
 use lists::one_if;
 use table::layout::Words;
 use table_words::fours::FourPlace;
 use table_words::fours::PlaceWords;
-use table_words::fours::endpoint_at;
 use table_words::fours::place_words;
 use table_words::ids::is_lsp_id;
 use table_words::ids::is_tunnel_id;
 use table_words::ids::is_zero_lsp;
 use table_words::ids::is_zero_tunnel;
-use table_words::ids::same_lsp;
-use table_words::ids::same_tunnel;
 
 fn is_taken(t: &Words, f: FourPlace, j: usize) -> bool
     requires { ⌜ FourInside f × (j < 4) ⌝ }
@@ -88,95 +83,6 @@ pub fn free_place(t: &Words, f: FourPlace) -> usize
         !is_taken(t, f, 2),
         !is_taken(t, f, 3),
     )
-}
-
-// Two places have the same connection; whether they are taken is another matter. Most differ by the Tunnel ID.
-fn same_connection(t: &Words, f: FourPlace, i: usize, g: FourPlace, j: usize) -> bool
-    requires { ⌜ FourInside f × FourInside g × (i < 4) × (j < 4) ⌝ }
-    ensures { λ r. ⌜ r ≡ sameConnection (connectionAt (fourAtWord (now (t .entry)) f) i) (connectionAt (fourAtWord (now (t .entry)) g) j) ⌝ }
-{
-    let p = place_words(t, f, i);
-    let q = place_words(t, g, j);
-    if !same_tunnel(p.tunnel, q.tunnel) {
-        return false;
-    }
-    (endpoint_at(t, f, i) == endpoint_at(t, g, j))
-        & (f.sender == g.sender)
-        & (p.extended == q.extended)
-        & same_lsp(p.lsp, q.lsp)
-}
-
-// The connection in a place is one of the other four's.
-fn is_among(t: &Words, f: FourPlace, i: usize, g: FourPlace) -> bool
-    requires { ⌜ FourInside f × FourInside g × (i < 4) ⌝ }
-    ensures { λ r. ⌜ r ≡ has (sameConnection (connectionAt (fourAtWord (now (t .entry)) f) i)) (heldIn (fourAtWord (now (t .entry)) g)) ⌝ }
-{
-    let mut found = false;
-    let mut j: usize = 0;
-    while j < 4 {
-        found = found | (is_taken(t, g, j) & same_connection(t, f, i, g, j));
-        j += 1;
-    }
-    found
-}
-
-// The same, of a place that may be free: then the other four is not looked at.
-fn is_shared(t: &Words, f: FourPlace, i: usize, g: FourPlace) -> bool
-    requires { ⌜ FourInside f × FourInside g × (i < 4) ⌝ }
-    ensures { λ r. ⌜ r ≡ (isTaken (placeAt (fourAtWord (now (t .entry)) f) i) && has (sameConnection (connectionAt (fourAtWord (now (t .entry)) f) i)) (heldIn (fourAtWord (now (t .entry)) g))) ⌝ }
-{
-    if is_taken(t, f, i) {
-        return is_among(t, f, i, g);
-    }
-    false
-}
-
-// A connection of the one is also the other's. Fours of two senders have none in common.
-pub fn fours_meet(t: &Words, f: FourPlace, g: FourPlace) -> bool
-    requires { ⌜ FourInside f × FourInside g ⌝ }
-    ensures { λ r. ⌜ r ≡ meet sameConnection (heldIn (fourAtWord (now (t .entry)) f)) (heldIn (fourAtWord (now (t .entry)) g)) ⌝ }
-{
-    if f.sender != g.sender {
-        return false;
-    }
-    let mut found = false;
-    let mut i: usize = 0;
-    while i < 4 {
-        found = found | is_shared(t, f, i, g);
-        i += 1;
-    }
-    found
-}
-
-// The connection in a place, where it is taken, is that of no earlier place.
-fn apart_from_earlier(t: &Words, f: FourPlace, i: usize) -> bool
-    requires { ⌜ FourInside f × (i < 4) ⌝ }
-    ensures { λ r. ⌜ r ≡ everyBelow (λ j. apart (fourAtWord (now (t .entry)) f) i j) i ⌝ }
-{
-    if !is_taken(t, f, i) {
-        return true;
-    }
-    let mut apart = true;
-    let mut j: usize = 0;
-    while j < i {
-        apart = apart & !(is_taken(t, f, j) & same_connection(t, f, j, f, i));
-        j += 1;
-    }
-    apart
-}
-
-// No two connections are alike.
-pub fn four_once(t: &Words, f: FourPlace) -> bool
-    requires { ⌜ FourInside f ⌝ }
-    ensures { λ r. ⌜ r ≡ noTwo sameConnection (heldIn (fourAtWord (now (t .entry)) f)) ⌝ }
-{
-    let mut once = true;
-    let mut i: usize = 0;
-    while i < 4 {
-        once = once & apart_from_earlier(t, f, i);
-        i += 1;
-    }
-    once
 }
 
 // Taken, with a Tunnel ID and an LSP ID of sixteen bits, or free and zero.

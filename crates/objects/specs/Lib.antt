@@ -3,5 +3,6 @@ pub mod Classes
 pub mod Forms
 pub mod Item
 pub mod Part
+pub mod Run
 pub mod Walk
 pub mod Placed

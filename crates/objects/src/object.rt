@@ -51,7 +51,7 @@ fn is_read(class: u8) -> bool
 }
 
 // Skipped, or ignored. Ranges, and not a search: the compiler makes one branch of this and the table of forms.
-fn passed_over(class: u8) -> bool
+pub(crate) fn passed_over(class: u8) -> bool
     ensures { λ r. ⌜ r ≡ passedOver class ⌝ }
 {
     (class == 0)

@@ -1,7 +1,10 @@
 // The walk over a message's objects from place 8, in one pass; the first faulty object ends it.
 ghost use mathlib.Core.Path.{_≡_};
 ghost use mathlib.Core.List.{[]};
-ghost use Prim.Native.Nat.{_+_, _<_};
+ghost use mathlib.Core.Bool.{true};
+ghost use Prim.Native.Nat.{_+_, _*_, _≤_, _<_};
+ghost use lib.ListN.{length};
+ghost use Rattle.objects.specs.Run.{isLike, allLike};
 ghost use Rattle.objects.specs.Walk.{withObject, objectsOf, walkOf};
 use crate::fault::Fault;
 use crate::object::ADMIN_STATUS;
@@ -13,6 +16,8 @@ use crate::object::SENDER_TEMPLATE;
 use crate::object::SESSION;
 use crate::object::SESSION_ATTRIBUTE;
 use crate::object::item_at;
+use crate::object::passed_over;
+use numbers::big_endian::get16;
 
 // Where the last object of a class stands, and how often one came. Place 0: none came.
 pub struct Seen {
@@ -99,6 +104,34 @@ fn nothing_seen() -> Objects
     }
 }
 
+// An object at a place is like one that was passed over: of its class, and as long. It lies within the message.
+fn is_like(s: &[u8], at: usize, o: Object) -> bool
+    requires { ⌜ (4 ≤ o .len) × (o .len ≤ length (now s)) × (at ≤ length (now s)) ⌝ }
+    ensures { λ r. ⌜ r ≡ isLike (now (s .entry)) at o ⌝ }
+{
+    if s.len() < at + o.len {
+        return false;
+    }
+    (get16(s, at) as usize == o.len) & (s[at + 2] == o.class)
+}
+
+// How many objects from a place on are like one that was passed over. Its length is the step, and not what is read:
+// then the next place is known before the bytes there are. The walk goes on behind the run, so nothing need be said of
+// the object there.
+fn run_of(s: &[u8], from: usize, o: Object) -> usize
+    requires { ⌜ (4 ≤ o .len) × (o .len ≤ length (now s)) × (from ≤ length (now s)) ⌝ }
+    ensures { λ r. ⌜ (allLike (now (s .entry)) from o r ≡ true) × (from + r * o .len ≤ length (now (s .entry))) ⌝ }
+{
+    let len = o.len;
+    let mut at = from;
+    let mut more = 0;
+    while is_like(s, at, o) {
+        at += len;
+        more += 1;
+    }
+    more
+}
+
 pub fn walk(s: &[u8]) -> Walked
     ensures { λ r. ⌜ r ≡ walkOf (now (s .entry)) ⌝ }
 {
@@ -117,6 +150,11 @@ pub fn walk(s: &[u8]) -> Walked
             Item::Found(o) => {
                 seen = with_object(seen, o);
                 at += o.len;
+                if passed_over(o.class) {
+                    let more = run_of(s, at, o);
+                    seen.headers += more;
+                    at += more * o.len;
+                }
             }
         }
     }

@@ -1,22 +1,21 @@
 -- The laws of a turn over the records: what it stores, what it adds, and what is left to answer.
 -- Assumes nothing.
 use Prim.Native.Nat.{ℕ, suc, _+_, _-_, _*_, _/_, _%_, _≤_, _<_}
-use native.Mathlib.Nat.{eq-or-lt-of-le}
 use native.Mathlib.Omega.{arith}
-use mathlib.Core.Path.{_≡_, refl, sym, _∙_}
-use mathlib.Core.Logic.{⊎-elim}
+use mathlib.Core.Path.{_≡_, refl}
 use mathlib.Core.List.{List, [], _∷_}
-use mathlib.Core.Bool.{Bool, true, false, cond}
+use mathlib.Core.Bool.{Bool, true, cond}
 use lib.Dec.{ltb}
 use lib.ListN.{set, replicate}
-use borrow.Author.Tests.{eq-eqb, ne-eqb, ltb-true, ltb-false, lt-ltb, le-ltb}
+use borrow.Author.Tests.{eq-eqb, ne-eqb}
 use Rattle.numbers.specs.BigEndian.{be16At, be24At, be32At}
 use Rattle.lists.specs.Count.{has}
 use Rattle.lists.specs.Below.{elementIf, below}
-use Rattle.lists.proofs.Below.{set-each, getD-each, sum-turn}
+use Rattle.lists.proofs.Below.{sum-turn}
+use Rattle.lists.proofs.Filled.{fill-turn, fill-left}
 use Rattle.table.specs.declared.answer.RosterAnswer.{RosterAnswer}
 use Rattle.table.specs.declared.answer.RosterAnswer.the-variants.{Accepted, SpareBits, Share, Repeated, Guarantees}
-use Rattle.table.specs.Table.{Customer, Table}
+use Rattle.table.specs.Table.{Table}
 use Rattle.table.specs.Total.{total}
 use Rattle.table.specs.Zeros.{noCall, noCustomer, emptyTable, pastCustomer}
 use Rattle.table.specs.Lists.{customerAt}
@@ -44,25 +43,14 @@ pub taking-none : (s : List ℕ) → emptyTable ≡ taking s 0
 unfolding emptyTable customersFrom below
 taking-none s = refl
 
--- what stands in place k where n records are in
-abbrev placed : List ℕ → ℕ → ℕ → Customer
-placed s n k = cond (ltb k n) (customerIn s k) noCustomer
-
-other-places : (s : List ℕ) (k i : ℕ) → (i ≡ k → ⊥) → placed s k i ≡ placed s (k + 1) i
-other-places s k i n = go (ltb i k) refl
-  where
-    go : (b : Bool) → ltb i k ≡ b → placed s k i ≡ placed s (k + 1) i
-    go true e = rw (e, lt-ltb i (k + 1) (omega (arith, ltb-true i k e)))
-    go false e = rw (e, le-ltb i (k + 1) (⊎-elim (λ (q : k ≡ i). absurd (n (sym q))) (λ (q : k < i). omega arith) (eq-or-lt-of-le (ltb-false i k e))))
-
 one-more-customer : (s : List ℕ) (k : ℕ) → k < 8 → set (customersFrom s k) k (customerIn s k) ≡ customersFrom s (k + 1)
 unfolding customersFrom
-one-more-customer s k h = rw (lt-ltb k (k + 1) (omega arith)) at (set-each (placed s k) (placed s (k + 1)) 8 k h (other-places s k))
+one-more-customer s k h = fill-turn (customerIn s) (λ _. noCustomer) 8 k _ _ h refl refl
 
 -- the next record is unused
 next-unused : (s : List ℕ) (k : ℕ) → k < 8 → customerAt (taking s k) k ≡ noCustomer
 unfolding customersFrom
-next-unused s k h = getD-each (placed s k) 8 k pastCustomer h ∙ rw (le-ltb k k (omega arith))
+next-unused s k h = fill-left (customerIn s) (λ _. noCustomer) 8 k k _ pastCustomer (omega arith) h refl
 
 terms-in : (s : List ℕ) (k : ℕ) → withTerms noCustomer (termsIn s k .address) (termsIn s k .guarantee) (termsIn s k .limit) ≡ customerIn s k
 unfolding noCustomer

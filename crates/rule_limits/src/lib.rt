@@ -1,22 +1,21 @@
 // The rules on the roster and on how many calls each customer has.
 ghost use mathlib.Core.Path.{_≡_};
-ghost use mathlib.Core.Bool.{cond, not, _&&_};
-ghost use Prim.Native.Nat.{_≤_, _<_};
-ghost use lib.Dec.{eqb};
-ghost use Rattle.lists.specs.Count.{bit, has};
+ghost use mathlib.Core.Bool.{true, _&&_};
+ghost use Prim.Native.Nat.{ℕ, _<_};
+ghost use lib.ListN.{length, getD, replicate};
+ghost use Rattle.lists.specs.Count.{has, sumOf};
 ghost use Rattle.table.specs.Total.{total, totalOf};
-ghost use Rattle.table.specs.Word.{isUsed};
-ghost use Rattle.table.specs.Lists.{callAt, roster, entries};
-ghost use Rattle.table.specs.Share.{isListed, callsOf, S};
+ghost use Rattle.table.specs.Lists.{roster, entries};
+ghost use Rattle.table.specs.Share.{callsOf, S};
 ghost use Rattle.table.specs.Rules.{badShare, acceptable, rosterHolds, overLimit, holds, sendersListed, withinLimits, shareWithinTotal};
 ghost use Rattle.table.specs.Words.{tableOf};
+ghost use Rattle.rule_limits.specs.Tally.{tallied, addressesOf, callsEach};
 use lists::larger;
 use lists::number_if;
-use lists::one_if;
-use table::layout::SLOTS;
 use table::layout::TOTAL;
 use table::layout::Words;
 use table::word::is_used;
+use table::word::used_below;
 use table_words::calls::call_head;
 use table_words::customers::CustomerHead;
 use table_words::customers::customer_head;
@@ -24,6 +23,7 @@ use table_words::head::address;
 use table_words::head::epoch;
 use table_words::head::listed;
 use table_words::head::occupied;
+use table_words::head::open_calls;
 
 // Limit 0, limit above the total, or guarantee above limit.
 fn bad_share(c: CustomerHead) -> bool
@@ -67,108 +67,86 @@ pub fn roster_holds(t: &Words) -> bool
     (listed <= 8) & (epoch(t) < 0x100_0000) & is_acceptable(t)
 }
 
-fn is_listed(t: &Words, sender: u32) -> bool
-    ensures { λ r. ⌜ r ≡ isListed (roster (tableOf (now (t .entry)))) sender ⌝ }
+// One more call of a sender: counted for each customer at that address. No early exit: then the compiler does several
+// at a time. No count is at the total yet, as there are no more slots.
+fn tally(counts: &mut [u32; 8], addresses: &[u32; 8], sender: u32)
+    requires { ⌜ (length (now counts) ≡ 8) × ((k : ℕ) → k < 8 → getD (now counts) k 0 < total) ⌝ }
+    ensures { λ _. ⌜ now (counts .exit) ≡ tallied (now (counts .entry)) (now (addresses .entry)) sender ⌝ }
 {
-    let listed = listed(t);
-    let mut known = false;
+    let mut k: usize = 0;
+    while k < 8 {
+        let here = addresses[k] == sender;
+        counts[k] = counts[k] + (here as u32);
+        k += 1;
+    }
+}
+
+// The addresses of the eight roster records, used or not.
+fn addresses(t: &Words) -> [u32; 8]
+    ensures { λ r. ⌜ r ≡ addressesOf (tableOf (now (t .entry))) ⌝ }
+{
+    let mut a = [0u32; 8];
     let mut k: usize = 0;
     while k < 8 {
         let m = customer_head(t, k);
-        known = known | ((k < listed) & (sender == m.address));
+        a[k] = m.address;
         k += 1;
     }
-    known
+    a
 }
 
-// A slot with a call whose sender is not listed.
-fn is_unlisted(t: &Words, word: u64, i: usize) -> bool
-    requires { ⌜ i < total ⌝ }
-    ensures { λ r. ⌜ r ≡ (isUsed word i && not (isListed (roster (tableOf (now (t .entry)))) (callAt (tableOf (now (t .entry))) i .sender))) ⌝ }
-{
-    if is_used(word, i) {
-        let c = call_head(t, i);
-        return !is_listed(t, c.sender);
-    }
-    false
-}
-
-// Every call's sender is listed.
-pub fn senders_listed(t: &Words) -> bool
-    ensures { λ r. ⌜ r ≡ holds sendersListed (tableOf (now (t .entry))) ⌝ }
+// The open calls whose sender is a record's address, for each of the eight records. Whoever asks lends zeros.
+fn count_calls(counts: &mut [u32; 8], t: &Words)
+    requires { ⌜ now counts ≡ replicate 8 0 ⌝ }
+    ensures { λ _. ⌜ now (counts .exit) ≡ callsEach (tableOf (now (t .entry))) (entries (tableOf (now (t .entry)))) ⌝ }
 {
     let word = occupied(t);
-    let mut unlisted = false;
+    let a = addresses(t);
+    let n = used_below(word);
     let mut i: usize = 0;
-    while i < SLOTS {
-        unlisted = unlisted | is_unlisted(t, word, i);
+    while i < n {
+        if is_used(word, i) {
+            let c = call_head(t, i);
+            tally(counts, &a, c.sender);
+        }
         i += 1;
     }
-    !unlisted
 }
 
-// A slot with a call from a sender counts 1.
-fn one_if_from(t: &Words, word: u64, i: usize, sender: u32) -> usize
-    requires { ⌜ i < total ⌝ }
-    ensures { λ r. ⌜ (r ≡ bit (isUsed word i && eqb (callAt (tableOf (now (t .entry))) i .sender) sender)) × (r ≤ 1) ⌝ }
-{
-    if is_used(word, i) {
-        let c = call_head(t, i);
-        return one_if(c.sender == sender);
-    }
-    0
-}
-
-fn calls_from(t: &Words, sender: u32) -> usize
-    ensures { λ r. ⌜ (r ≡ callsOf (entries (tableOf (now (t .entry)))) sender) × (r ≤ 64) ⌝ }
-{
-    let word = occupied(t);
-    let mut calls: usize = 0;
-    let mut i: usize = 0;
-    while i < SLOTS {
-        calls += one_if_from(t, word, i, sender);
-        i += 1;
-    }
-    calls
-}
-
-// The calls of a customer who is listed: those of an unused record are not counted.
-fn calls_if(t: &Words, used: bool, sender: u32) -> usize
-    ensures { λ r. ⌜ (r ≡ cond used (callsOf (entries (tableOf (now (t .entry)))) sender) 0) × (r ≤ 64) ⌝ }
-{
-    if used {
-        return calls_from(t, sender);
-    }
-    0
-}
-
-// Whether a customer has more calls than its limit, and S.
+// Whether a customer has more calls than its limit, S, and how many calls have a listed sender.
 pub struct Shares {
     pub over: bool,
     pub sum: usize,
+    pub known: usize,
 }
 
 pub fn share_sums(t: &Words) -> Shares
-    ensures { λ r. ⌜ (r .over ≡ has (overLimit (entries (tableOf (now (t .entry))))) (roster (tableOf (now (t .entry))))) × (r .sum ≡ S (roster (tableOf (now (t .entry)))) (entries (tableOf (now (t .entry))))) ⌝ }
+    ensures { λ r. ⌜ (r .over ≡ has (overLimit (entries (tableOf (now (t .entry))))) (roster (tableOf (now (t .entry))))) × (r .sum ≡ S (roster (tableOf (now (t .entry)))) (entries (tableOf (now (t .entry))))) × (r .known ≡ sumOf (λ c. callsOf (entries (tableOf (now (t .entry)))) (c .address)) (roster (tableOf (now (t .entry))))) ⌝ }
 {
     let listed = listed(t);
+    let mut counts = [0u32; 8];
+    count_calls(&mut counts, t);
     let mut over = false;
     let mut sum: usize = 0;
+    let mut known: usize = 0;
     let mut k: usize = 0;
     while k < 8 {
         let m = customer_head(t, k);
-        let calls = calls_if(t, k < listed, m.address);
+        let calls = counts[k] as usize;
         over = over | ((k < listed) & (m.limit < calls));
         sum += number_if(k < listed, larger(calls, m.guarantee));
+        known += number_if(k < listed, calls);
         k += 1;
     }
-    Shares { over, sum }
+    Shares { over, sum, known }
 }
 
-// No customer has more calls than its limit, and S is at most the total.
+// Every call's sender is listed, no customer has more calls than its limit, and S is at most the total. The roster's
+// addresses differ, as `roster_holds` tests first: so the calls of listed senders are counted once each.
 pub fn shares_hold(t: &Words) -> bool
-    ensures { λ r. ⌜ r ≡ (holds withinLimits (tableOf (now (t .entry))) && holds shareWithinTotal (tableOf (now (t .entry)))) ⌝ }
+    requires { ⌜ rosterHolds (tableOf (now t)) ≡ true ⌝ }
+    ensures { λ r. ⌜ r ≡ (holds sendersListed (tableOf (now (t .entry))) && holds withinLimits (tableOf (now (t .entry))) && holds shareWithinTotal (tableOf (now (t .entry)))) ⌝ }
 {
     let s = share_sums(t);
-    !s.over & (s.sum <= TOTAL)
+    (s.known == open_calls(t) as usize) & !s.over & (s.sum <= TOTAL)
 }

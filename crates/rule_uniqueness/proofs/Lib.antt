@@ -1,4 +1,2 @@
 pub mod Names
 pub mod Conflicts
-pub mod Near
-pub mod Apart

@@ -1,4 +1,63 @@
-// Nothing stands twice under the calls: no pair has a short or a long Call ID twice, and no connection under
-// a call is held twice.
-pub mod calls;
-mod pairs;
+// The exact way to see that no pair has a short or a long Call ID twice: every two open calls are compared. It is gone
+// where the keys of a table meet in few chains (rule_keys): it takes as long whatever the calls' IDs are.
+ghost use mathlib.Core.Path.{_≡_};
+ghost use mathlib.Core.Bool.{true, _&&_};
+ghost use Prim.Native.Nat.{_<_};
+ghost use Rattle.lists.specs.Below.{everyBelow};
+ghost use Rattle.table.specs.Total.{total};
+ghost use Rattle.table.specs.Word.{isUsed};
+ghost use Rattle.table.specs.Lists.{callAt};
+ghost use Rattle.table.specs.Rules.{holds, shortIdsOnce, longIdsOnce, namesAndIds, freeHoldsZeros};
+ghost use Rattle.table.specs.Words.{tableOf};
+ghost use Rattle.rule_uniqueness.specs.Conflict.{conflict, apartAt, NamesEnd};
+use table::layout::Words;
+use table::word::is_used;
+use table::word::used_below;
+use table_words::calls::call_head;
+use table_words::calls::same_names;
+use table_words::head::occupied;
+use table_words::ids::same_call;
+
+// Two slots' calls are of one pair and have the same short ID or the same long ID. Zeros stand behind the names: so they
+// are the same where their lengths and all of their words are. No branches: all pairs of slots take as long.
+fn in_conflict(t: &Words, j: usize, i: usize) -> bool
+    requires { ⌜ (j < total) × (i < total) × NamesEnd (tableOf (now t)) ⌝ }
+    ensures { λ r. ⌜ r ≡ conflict (callAt (tableOf (now (t .entry))) j) (callAt (tableOf (now (t .entry))) i) ⌝ }
+{
+    let c = call_head(t, j);
+    let d = call_head(t, i);
+    let pair = (c.endpoint == d.endpoint) & (c.sender == d.sender);
+    let long = (c.size == d.size) & same_names(t, j, i);
+    pair & (same_call(c.id, d.id) | long)
+}
+
+// A slot's call is in conflict with none of the earlier ones.
+fn apart_from_earlier(t: &Words, word: u64, i: usize) -> bool
+    requires { ⌜ (i < total) × NamesEnd (tableOf (now t)) ⌝ }
+    ensures { λ r. ⌜ r ≡ everyBelow (apartAt word (tableOf (now (t .entry))) i) i ⌝ }
+{
+    let used = is_used(word, i);
+    let mut apart = true;
+    let mut j: usize = 0;
+    while j < i {
+        apart = apart & !(is_used(word, j) & (used & in_conflict(t, j, i)));
+        j += 1;
+    }
+    apart
+}
+
+// Names and zeros are tested before: so the names end where their lengths say.
+pub fn ids_once(t: &Words) -> bool
+    requires { ⌜ (holds namesAndIds (tableOf (now t)) ≡ true) × (holds freeHoldsZeros (tableOf (now t)) ≡ true) ⌝ }
+    ensures { λ r. ⌜ r ≡ (holds shortIdsOnce (tableOf (now (t .entry))) && holds longIdsOnce (tableOf (now (t .entry)))) ⌝ }
+{
+    let word = occupied(t);
+    let n = used_below(word);
+    let mut apart = true;
+    let mut i: usize = 0;
+    while i < n {
+        apart = apart & apart_from_earlier(t, word, i);
+        i += 1;
+    }
+    apart
+}

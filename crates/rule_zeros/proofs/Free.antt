@@ -1,17 +1,21 @@
--- What the tests of a call's head and of a customer's four come to.
+-- What the tests of a call's head, of the slots and of a customer's four come to.
 -- Assumes nothing.
-use Prim.Native.Nat.{ℕ, zero, suc, _-_, _≤_, _<_, min}
+use Prim.Native.Nat.{ℕ, _+_, _-_, _≤_, _<_}
 use native.Mathlib.Omega.{arith}
 use mathlib.Core.Path.{_≡_, refl, sym, ap, _∙_}
-use mathlib.Core.Bool.{Bool, true, false, not, _&&_, _||_, and-true, and-false}
+use mathlib.Core.Bool.{Bool, true, false, cond, not, _&&_, _||_, and-true, and-false}
 use lib.Dec.{eqb, ltb, leb}
 use lib.ListN.{getD}
 use borrow.Author.Tests.{eqb-false, ltb-true, ltb-false, le-leb, lt-leb}
 use Rattle.numbers.specs.Search.{zerosAt}
 use Rattle.lists.specs.Below.{everyBelow}
-use Rattle.table.specs.Table.{Call, Customer}
-use Rattle.table.specs.Lists.{Four, callFour, customerFour, placeAt, isTaken}
-use Rattle.table.specs.Rules.{validIds, fourValid, callFreeClear, customerFreeClear}
+use Rattle.lists.proofs.Below.{every-same, every-split}
+use Rattle.lists.proofs.Pairs.{every-both, every-ext}
+use Rattle.table.specs.Table.{Call, Customer, Table}
+use Rattle.table.specs.Total.{total, totalOf}
+use Rattle.table.specs.Word.{isUsed, FreeFrom}
+use Rattle.table.specs.Lists.{Four, callAt, callFour, customerFour, placeAt, isTaken}
+use Rattle.table.specs.Rules.{validIds, fourValid, unusedClear, callFreeClear, callClear, customerFreeClear, slotFreeClear, holds, namesAndIds}
 use Rattle.table_words.specs.Fours.{Alike}
 use Rattle.table_words.specs.Heads.{headOf}
 use Rattle.table_words.specs.declared.calls.CallHead.{CallHead}
@@ -21,12 +25,24 @@ neither : (x y : Bool) → (x || y) ≡ false → (x ≡ false) × (y ≡ false)
 neither true y e = (e, cc)
 neither false y e = (refl, e)
 
--- where a name has bytes and not too many, its last one stands in its room
-pub last-place : (size n : ℕ) → (eqb size 0 || ltb 32 size) ≡ false → n ≡ min size 32 → (1 ≤ n) × (n - 1 < 32)
-last-place size n q e =
+-- a name that is neither empty nor too long
+pub some-size : (size : ℕ) → (eqb size 0 || ltb 32 size) ≡ false → (0 < size) × (size ≤ 32)
+some-size size q =
     let k = neither (eqb size 0) (ltb 32 size) q in
     let some : size ≡ 0 → ⊥ = eqb-false size 0 (k .0) in
-    (omega (arith, e), omega (arith, e))
+    (omega arith, ltb-false 32 size (k .1))
+
+-- the tests of an open call, in the code's order and in that of the rules
+in-turn : (x made refreshed epoch identifier four : Bool)
+    → (x && made && refreshed && epoch && identifier && four) ≡ (x && (made && refreshed && epoch && identifier) && four)
+in-turn true made refreshed epoch identifier four = refl
+in-turn false made refreshed epoch identifier four = refl
+
+by-rule : (id zeros last unused four : Bool) → ((id && (zeros && last)) && unused && four) ≡ ((id && last) && (unused && zeros && four))
+by-rule false zeros last unused four = refl
+by-rule true true true unused four = rw (and-true unused)
+by-rule true true false unused four = refl
+by-rule true false last unused four = rw (and-false unused, and-false last)
 
 module _ (c : Call) (h : CallHead) (e : h ≡ headOf c) where
   -- a name of no bytes, or of too many, decides by itself
@@ -46,27 +62,46 @@ module _ (c : Call) (h : CallHead) (e : h ≡ headOf c) where
           let long = ltb-true 32 (c .size) (sym (ap (λ b. b || ltb 32 (c .size)) p) ∙ ap (λ (k : CallHead). eqb (k .size) 0 || ltb 32 (k .size)) (sym e) ∙ q) in
           sym (rw (lt-leb (c .size) 32 long, and-false (a && not (eqb (c .size) 0))))
 
-  -- a name of 1 to 32 bytes: its last byte
-  pub some-ids : (v : Bool) (last n : ℕ) → (eqb (h .size) 0 || ltb 32 (h .size)) ≡ false → v ≡ (not (eqb (h .id .0) 0) && ltb (h .id .0) 0x10000)
-      → n ≡ min (h .size) 32 → last ≡ getD (c .name) (n - 1) 0 → (v && not (eqb last 0)) ≡ validIds c
-  unfolding validIds
-  some-ids v last n q p m l =
+  -- a name of 1 to 32 bytes
+  pub tidy-by-head : (v n f : Bool) → (eqb (h .size) 0 || ltb 32 (h .size)) ≡ false → v ≡ (not (eqb (h .id .0) 0) && ltb (h .id .0) 0x10000)
+      → n ≡ (zerosAt (c .name) (h .size) (32 - h .size) && not (eqb (getD (c .name) (h .size - 1) 0) 0)) → f ≡ fourValid (callFour c)
+      → (v && n && eqb (h .made) 0 && eqb (h .refreshed) 0 && eqb (h .epoch) 0 && eqb (h .identifier) 0 && f) ≡ (validIds c && callFreeClear c)
+  unfolding validIds callFreeClear
+  tidy-by-head v n f q p m r =
       let size = neither (eqb (c .size) 0) (ltb 32 (c .size)) (ap (λ (k : CallHead). eqb (k .size) 0 || ltb 32 (k .size)) (sym e) ∙ q) in
-      let few = ltb-false 32 (c .size) (size .1) in
-      let at : min (c .size) 32 ≡ c .size = omega (arith, few) in
       let a = not (eqb (c .id) 0) && ltb (c .id) 0x10000 in
-      rw (p, l, m, e, at, size .0, le-leb (c .size) 32 few, and-true a, and-true a)
+      let zeros = zerosAt (c .name) (c .size) (32 - c .size) in
+      let last = not (eqb (getD (c .name) (c .size - 1) 0) 0) in
+      rw (p, m, r, e, size .0, le-leb (c .size) 32 (ltb-false 32 (c .size) (size .1)), and-true a, and-true a)
+      (in-turn (a && (zeros && last)) (eqb (c .made) 0) (eqb (c .refreshed) 0) (eqb (c .epoch) 0) (eqb (c .identifier) 0) (fourValid (callFour c))
+      ∙ by-rule a zeros last (unusedClear c) (fourValid (callFour c)))
 
-  pub free-by-head : (n f : Bool) → n ≡ zerosAt (c .name) (c .size) (32 - c .size) → f ≡ fourValid (callFour c)
-      → (eqb (h .made) 0 && eqb (h .refreshed) 0 && eqb (h .epoch) 0 && eqb (h .identifier) 0 && n && f) ≡ callFreeClear c
-  unfolding callFreeClear
-  free-by-head n f p q = rw (e, p, q)
+-- ---- the slots
 
--- tests that agree below a bound
-every-below : (p q : ℕ → Bool) (n : ℕ) → ((i : ℕ) → i < n → p i ≡ q i) → everyBelow p n ≡ everyBelow q n
-unfolding everyBelow
-every-below p q zero h = refl
-every-below p q (suc n) h = rw (every-below p q n (λ i l. h i (omega arith)), h n (omega arith))
+-- the two rules, of one slot
+slot-both : (used valid clear free : Bool) → ((not used || valid) && cond used clear free) ≡ cond used (valid && clear) free
+slot-both true valid clear free = refl
+slot-both false valid clear free = refl
+
+abbrev pub slotTidy : Table → ℕ → Bool
+slotTidy t i = cond (isUsed (t .occupied) i) (validIds (callAt t i) && callFreeClear (callAt t i)) (callClear (callAt t i))
+
+-- the two rules, of all slots: the slots from n on are free
+pub slots-tidy : (t : Table) (n : ℕ) → n ≤ total → FreeFrom (t .occupied) n
+    → (everyBelow (slotTidy t) n && everyBelow (λ j. callClear (callAt t (n + j))) (total - n)) ≡ (holds namesAndIds t && everyBelow (slotFreeClear t) (totalOf t))
+slots-tidy t n h free =
+    let valid : ℕ → Bool = λ i. not (isUsed (t .occupied) i) || validIds (callAt t i) in
+    let all : n + (total - n) ≡ total = omega arith in
+    let rest : everyBelow (λ j. slotTidy t (n + j)) (total - n) ≡ everyBelow (λ j. callClear (callAt t (n + j))) (total - n) =
+    every-same _ _ (total - n) (λ j l. ap (λ b. cond b (validIds (callAt t (n + j)) && callFreeClear (callAt t (n + j))) (callClear (callAt t (n + j)))) (free (n + j) (omega arith))) in
+    sym
+    (sym (every-both valid (slotFreeClear t) total)
+    ∙ every-ext _ (slotTidy t) total (λ i. slot-both (isUsed (t .occupied) i) (validIds (callAt t i)) (callFreeClear (callAt t i)) (callClear (callAt t i)))
+    ∙ ap (λ (m : ℕ). everyBelow (slotTidy t) m) (sym all)
+    ∙ every-split (slotTidy t) n (total - n)
+    ∙ ap (λ b. everyBelow (slotTidy t) n && b) rest)
+
+-- ---- the roster's records
 
 abbrev beside : Four → ℕ → Bool
 beside f j = isTaken (placeAt f j) || eqb (f .endpoint j) 0
@@ -75,4 +110,4 @@ pub customer-by-four : (m : Customer) (f : Four) (v e : Bool) → Alike f (custo
     → (v && e) ≡ customerFreeClear m
 unfolding customerFreeClear
 customer-by-four m f v e a p q =
-    rw (p, q, alike-valid f (customerFour m) a, every-below (beside f) (beside (customerFour m)) 4 (λ j l. rw (a .places, a .endpoint j l)))
+    rw (p, q, alike-valid f (customerFour m) a, every-same (beside f) (beside (customerFour m)) 4 (λ j l. rw (a .places, a .endpoint j l)))

@@ -1,6 +1,6 @@
 // The rules on names and Call IDs, and that what is free holds zeros.
 ghost use mathlib.Core.Path.{_≡_};
-ghost use mathlib.Core.Bool.{cond, not, _||_};
+ghost use mathlib.Core.Bool.{cond, _&&_, _||_};
 ghost use Prim.Native.Nat.{_<_};
 ghost use lib.Dec.{eqb, ltb};
 ghost use Rattle.lists.specs.Below.{everyBelow};
@@ -10,12 +10,19 @@ ghost use Rattle.table.specs.Lists.{callAt, customerAt, placeAt, isTaken};
 ghost use Rattle.table.specs.Rules.{validIds, callFreeClear, callClear, customerFreeClear, customerClear, slotFreeClear, recordFreeClear, holds, namesAndIds, freeHoldsZeros};
 ghost use Rattle.table.specs.Words.{tableOf};
 ghost use Rattle.table_words.specs.Fours.{fourAtWord, FourInside};
+ghost use Rattle.rule_zeros.specs.Masks.{pastMasks};
+
+mod names;
+
+use crate::names::PAST;
+use crate::names::ends_at;
 use fours::four_valid;
-use table::layout::SLOTS;
 use table::layout::Words;
 use table::word::is_used;
+use table::word::used_below;
 use table_words::calls::call_clear;
 use table_words::calls::call_head;
+use table_words::calls::calls_clear_from;
 use table_words::customers::customer_clear;
 use table_words::fours::FourPlace;
 use table_words::fours::call_four;
@@ -25,52 +32,50 @@ use table_words::fours::place_words;
 use table_words::head::listed;
 use table_words::head::occupied;
 use table_words::ids::is_call_id;
-use table_words::names::name_byte;
-use table_words::names::name_size;
-use table_words::names::past_name_clear;
 
-// A name of 1 to 32 bytes that ends in a byte that is not zero, and a Call ID of sixteen bits that is not 0, or a free
-// slot.
-fn ids_valid(t: &Words, word: u64, i: usize) -> bool
-    requires { ⌜ i < total ⌝ }
-    ensures { λ r. ⌜ r ≡ (not (isUsed word i) || validIds (callAt (tableOf (now (t .entry))) i)) ⌝ }
-{
-    if is_used(word, i) {
-        let c = call_head(t, i);
-        let n = name_size(c.size);
-        if (c.size == 0) | (32 < c.size) {
-            return false;
-        }
-        return is_call_id(c.id) & (name_byte(t, i, n - 1) != 0);
-    }
-    true
-}
-
-pub fn names_and_ids(t: &Words) -> bool
-    ensures { λ r. ⌜ r ≡ holds namesAndIds (tableOf (now (t .entry))) ⌝ }
-{
-    let word = occupied(t);
-    let mut valid = true;
-    let mut i: usize = 0;
-    while i < SLOTS {
-        valid = valid & ids_valid(t, word, i);
-        i += 1;
-    }
-    valid
-}
-
-// Of an open call: what requests A6 and A7 will use, the bytes past its name, its places that are not taken.
-fn call_free_clear(t: &Words, i: usize) -> bool
-    requires { ⌜ i < total ⌝ }
-    ensures { λ r. ⌜ r ≡ callFreeClear (callAt (tableOf (now (t .entry))) i) ⌝ }
+// An open call: a name of 1 to 32 bytes that ends in a byte that is not zero, a Call ID of sixteen bits that is not 0, and
+// zeros past the name, in what requests A6 and A7 will use and in the places that are not taken.
+fn call_tidy(masks: &[u32; 64], t: &Words, i: usize) -> bool
+    requires { ⌜ (i < total) × (now masks ≡ pastMasks) ⌝ }
+    ensures { λ r. ⌜ r ≡ (validIds (callAt (tableOf (now (t .entry))) i) && callFreeClear (callAt (tableOf (now (t .entry))) i)) ⌝ }
 {
     let c = call_head(t, i);
-    (c.made == 0)
+    if (c.size == 0) | (32 < c.size) {
+        return false;
+    }
+    is_call_id(c.id)
+        & ends_at(masks, t, i, c.size as usize)
+        & (c.made == 0)
         & (c.refreshed == 0)
         & (c.epoch == 0)
         & (c.identifier == 0)
-        & past_name_clear(t, i)
         & four_valid(t, call_four(t, i))
+}
+
+fn slot_tidy(masks: &[u32; 64], t: &Words, word: u64, i: usize) -> bool
+    requires { ⌜ (i < total) × (now masks ≡ pastMasks) ⌝ }
+    ensures { λ r. ⌜ r ≡ cond (isUsed word i) (validIds (callAt (tableOf (now (t .entry))) i) && callFreeClear (callAt (tableOf (now (t .entry))) i)) (callClear (callAt (tableOf (now (t .entry))) i)) ⌝ }
+{
+    if is_used(word, i) {
+        return call_tidy(masks, t, i);
+    }
+    call_clear(t, i)
+}
+
+// Names, IDs and zeros in one pass. The slots past the last used one are free: their words are tested in one row.
+fn slots_tidy(t: &Words) -> bool
+    ensures { λ r. ⌜ r ≡ (holds namesAndIds (tableOf (now (t .entry))) && everyBelow (slotFreeClear (tableOf (now (t .entry)))) (totalOf (tableOf (now (t .entry))))) ⌝ }
+{
+    let masks = PAST;
+    let word = occupied(t);
+    let n = used_below(word);
+    let mut tidy = true;
+    let mut i: usize = 0;
+    while i < n {
+        tidy = tidy & slot_tidy(&masks, t, word, i);
+        i += 1;
+    }
+    tidy & calls_clear_from(t, n)
 }
 
 // An end point stands beside a taken place.
@@ -96,16 +101,6 @@ fn customer_free_clear(t: &Words, k: usize) -> bool
     four_valid(t, f) & endpoints_clear(t, f)
 }
 
-fn slot_free_clear(t: &Words, word: u64, i: usize) -> bool
-    requires { ⌜ i < total ⌝ }
-    ensures { λ r. ⌜ r ≡ cond (isUsed word i) (callFreeClear (callAt (tableOf (now (t .entry))) i)) (callClear (callAt (tableOf (now (t .entry))) i)) ⌝ }
-{
-    if is_used(word, i) {
-        return call_free_clear(t, i);
-    }
-    call_clear(t, i)
-}
-
 fn record_free_clear(t: &Words, listed: usize, k: usize) -> bool
     requires { ⌜ k < 8 ⌝ }
     ensures { λ r. ⌜ r ≡ cond (ltb k listed) (customerFreeClear (customerAt (tableOf (now (t .entry))) k)) (customerClear (customerAt (tableOf (now (t .entry))) k)) ⌝ }
@@ -114,19 +109,6 @@ fn record_free_clear(t: &Words, listed: usize, k: usize) -> bool
         return customer_free_clear(t, k);
     }
     customer_clear(t, k)
-}
-
-fn slots_free_clear(t: &Words) -> bool
-    ensures { λ r. ⌜ r ≡ everyBelow (slotFreeClear (tableOf (now (t .entry)))) (totalOf (tableOf (now (t .entry)))) ⌝ }
-{
-    let word = occupied(t);
-    let mut clear = true;
-    let mut i: usize = 0;
-    while i < SLOTS {
-        clear = clear & slot_free_clear(t, word, i);
-        i += 1;
-    }
-    clear
 }
 
 fn records_free_clear(t: &Words) -> bool
@@ -142,8 +124,8 @@ fn records_free_clear(t: &Words) -> bool
     clear
 }
 
-pub fn free_holds_zeros(t: &Words) -> bool
-    ensures { λ r. ⌜ r ≡ holds freeHoldsZeros (tableOf (now (t .entry))) ⌝ }
+pub fn names_and_zeros(t: &Words) -> bool
+    ensures { λ r. ⌜ r ≡ (holds namesAndIds (tableOf (now (t .entry))) && holds freeHoldsZeros (tableOf (now (t .entry)))) ⌝ }
 {
-    slots_free_clear(t) & records_free_clear(t)
+    slots_tidy(t) & records_free_clear(t)
 }

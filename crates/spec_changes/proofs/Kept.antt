@@ -1,14 +1,14 @@
 -- The table rules as bounds on counts: what every change keeps.
 -- Assumes nothing.
-use Prim.Native.Nat.{ℕ, suc, _+_, _≤_, _<_}
+use Prim.Native.Nat.{ℕ, _+_, _≤_, _<_}
 use native.Mathlib.Omega.{arith}
-use mathlib.Core.Path.{_≡_, refl}
+use mathlib.Core.Path.{_≡_, refl, ap}
 use mathlib.Core.Logic.{_⊎_, inl, inr, _≢_}
 use mathlib.Core.List.{List, _∷_}
-use mathlib.Core.Bool.{Bool, true, false}
-use lib.Dec.{eqb}
+use mathlib.Core.Bool.{Bool, true, false, not}
+use lib.Dec.{ltb, eqb}
 use lib.ListN.{length}
-use borrow.Author.Tests.{eqb-true}
+use borrow.Author.Tests.{eqb-true, ltb-true, ltb-false}
 use Rattle.lists.specs.Count.{bit, countIf}
 use Rattle.lists.proofs.Count.{has-true, count-ext}
 use Rattle.table.specs.Table.{Table}
@@ -17,7 +17,7 @@ use Rattle.table.specs.Word.{isUsed}
 use Rattle.table.specs.Lists.{Terms, roster, Ids, Entry, callAt, entries, Held, held}
 use Rattle.table.specs.Share.{isAt, isListed, guaranteeOf, limitOf, from, callsOf, S}
 use Rattle.table.specs.Rules.{badShare, guarantees, rosterHolds, unlisted, sameShort, sameLong, validIds, sameConnection, slotFreeClear, recordFreeClear}
-use Rattle.spec_changes.proofs.Alike.{short-alike, long-alike}
+use Rattle.spec_changes.proofs.Alike.{self, short-self, long-self, short-alike, long-alike}
 use Rattle.spec_changes.proofs.Share.{S-mono, S-same, S-open, calls-within, calls-below}
 
 -- an acceptable roster
@@ -83,13 +83,11 @@ module _ (total : ℕ) (r : List Terms) (l : List Entry) (c : Ids) (i : CallsKep
       by false q = omega (arith, i .limits a h)
 
   open-room : (slot : ℕ) → ((a : ℕ) → countIf (isAt a) r ≤ 1) → S r (record { slot = slot; ids = c } ∷ l) ≤ total
-  open-room slot d = by (S-open r l (record { slot = slot; ids = c }) d (has-true _ r (m .known))) (m .share)
+  open-room slot d = by (m .share)
     where
-      by : (S r (record { slot = slot; ids = c } ∷ l) ≤ suc (S r l))
-          × (callsOf l (c .sender) < guaranteeOf r (c .sender) → S r (record { slot = slot; ids = c } ∷ l) ≡ S r l)
-          → (callsOf l (c .sender) < guaranteeOf r (c .sender)) ⊎ (S r l ≢ total) → S r (record { slot = slot; ids = c } ∷ l) ≤ total
-      by u (inl h) = omega (arith, u .1 h, i .room)
-      by u (inr h) = omega (arith, u .0, i .room)
+      by : (callsOf l (c .sender) < guaranteeOf r (c .sender)) ⊎ (S r l ≢ total) → S r (record { slot = slot; ids = c } ∷ l) ≤ total
+      by (inl h) = omega (arith, S-open r l (record { slot = slot; ids = c }) d (has-true _ r (m .known)) .1 h, i .room)
+      by (inr h) = omega (arith, S-open r l (record { slot = slot; ids = c }) d (has-true _ r (m .known)) .0, i .room)
 
   -- a test that is another's where it meets the new call
   open-once : (p q : Entry → Bool) (e : Entry) → countIf q l ≡ 0 → countIf p l ≤ 1 → (p e ≡ true → (x : Entry) → p x ≡ q x) → bit (p e) + countIf p l ≤ 1
@@ -109,4 +107,35 @@ module _ (total : ℕ) (r : List Terms) (l : List Entry) (c : Ids) (i : CallsKep
         (open-once (λ e. sameShort b (e .ids)) (λ e. sameShort c (e .ids)) (record { slot = slot; ids = c }) (m .newShort) (i .shorts b) (λ h x. short-alike b c (x .ids) h));
     longs = λ b. rw (f (λ e. sameLong b (e .ids)))
         (open-once (λ e. sameLong b (e .ids)) (λ e. sameLong c (e .ids)) (record { slot = slot; ids = c }) (m .newLong) (i .longs b) (λ h x. long-alike b c (x .ids) h));
+  }
+
+-- and what it needs, it must have: where the rules hold with the call, it might be opened
+module _ (total : ℕ) (r : List Terms) (l k : List Entry) (e : Entry) (d : (a : ℕ) → countIf (isAt a) r ≤ 1)
+    (f : (p : Entry → Bool) → countIf p k ≡ bit (p e) + countIf p l) (i : CallsKept total r k) where
+  opened-known : isListed r (e .ids .sender) ≡ true
+  opened-known = by (isListed r (e .ids .sender)) (omega (arith, f (unlisted r), i .senders))
+    where
+      by : (b : Bool) → bit (not b) + countIf (unlisted r) l ≡ 0 → b ≡ true
+      by true h = refl
+      by false h = let z : ⊥ = omega arith in absurd z
+
+  -- a test that the call passes
+  opened-new : (p : Entry → Bool) → p e ≡ true → countIf p k ≤ 1 → countIf p l ≡ 0
+  opened-new p h n = omega (arith, f p, ap bit h)
+
+  opened-share : (callsOf l (e .ids .sender) < guaranteeOf r (e .ids .sender)) ⊎ (S r l ≢ total)
+  opened-share = by (ltb (callsOf l (e .ids .sender)) (guaranteeOf r (e .ids .sender))) refl
+    where
+      by : (b : Bool) → ltb (callsOf l (e .ids .sender)) (guaranteeOf r (e .ids .sender)) ≡ b
+          → (callsOf l (e .ids .sender) < guaranteeOf r (e .ids .sender)) ⊎ (S r l ≢ total)
+      by true h = inl (ltb-true _ _ h)
+      by false h = inr (λ q. omega (arith, S-open r l e d (has-true _ r opened-known) .2 (ltb-false _ _ h), S-same r k (e ∷ l) f, i .room))
+
+  pub calls-opened : MayOpen total r l (e .ids)
+  calls-opened = record {
+    known = opened-known;
+    newShort = opened-new _ (short-self (e .ids)) (i .shorts (e .ids));
+    newLong = opened-new _ (long-self (e .ids)) (i .longs (e .ids));
+    under = λ q. omega (arith, f (from (e .ids .sender)), ap bit (self (e .ids .sender)), i .limits (e .ids .sender) opened-known);
+    share = opened-share;
   }

@@ -42,27 +42,36 @@ S-other (c ∷ r) l e h = by (isAt (e .ids .sender) c) h (S-other r l e)
 rest-apart : (c : Terms) (r : List Terms) → ((a : ℕ) → countIf (isAt a) (c ∷ r) ≤ 1) → countIf (isAt (c .address)) r ≡ 0
 rest-apart c r d = omega (arith, (rw (eq-eqb (c .address) (c .address) refl) at (d (c .address))))
 
--- at most one more, and none more below the guarantee
+-- at most one more: none more below the guarantee, and one from there on
 pub S-open : (r : List Terms) (l : List Entry) (e : Entry) → ((a : ℕ) → countIf (isAt a) r ≤ 1) → 0 < countIf (isAt (e .ids .sender)) r
-    → (S r (e ∷ l) ≤ suc (S r l)) × (countIf (from (e .ids .sender)) l < guaranteeOf r (e .ids .sender) → S r (e ∷ l) ≡ S r l)
+    → (S r (e ∷ l) ≤ suc (S r l))
+    × (countIf (from (e .ids .sender)) l < guaranteeOf r (e .ids .sender) → S r (e ∷ l) ≡ S r l)
+    × (guaranteeOf r (e .ids .sender) ≤ countIf (from (e .ids .sender)) l → S r (e ∷ l) ≡ suc (S r l))
 unfolding S
-S-open [] l e d h = (omega arith, λ x. refl)
+S-open [] l e d h = let z : ⊥ = omega arith in absurd z
 S-open (c ∷ r) l e d h = by (isAt (e .ids .sender) c) refl h (S-open r l e (λ a. omega (arith, d a)))
   where
     by : (b : Bool) → isAt (e .ids .sender) c ≡ b → 0 < bit b + countIf (isAt (e .ids .sender)) r
         → (0 < countIf (isAt (e .ids .sender)) r
-        → (S r (e ∷ l) ≤ suc (S r l)) × (countIf (from (e .ids .sender)) l < guaranteeOf r (e .ids .sender) → S r (e ∷ l) ≡ S r l))
+        → (S r (e ∷ l) ≤ suc (S r l))
+        × (countIf (from (e .ids .sender)) l < guaranteeOf r (e .ids .sender) → S r (e ∷ l) ≡ S r l)
+        × (guaranteeOf r (e .ids .sender) ≤ countIf (from (e .ids .sender)) l → S r (e ∷ l) ≡ suc (S r l)))
         → (max (bit b + countIf (from (c .address)) l) (c .guarantee) + S r (e ∷ l) ≤ suc (max (countIf (from (c .address)) l) (c .guarantee) + S r l))
         × (countIf (from (e .ids .sender)) l < cond b (c .guarantee) (guaranteeOf r (e .ids .sender))
         → max (bit b + countIf (from (c .address)) l) (c .guarantee) + S r (e ∷ l) ≡ max (countIf (from (c .address)) l) (c .guarantee) + S r l)
+        × (cond b (c .guarantee) (guaranteeOf r (e .ids .sender)) ≤ countIf (from (e .ids .sender)) l
+        → max (bit b + countIf (from (c .address)) l) (c .guarantee) + S r (e ∷ l) ≡ suc (max (countIf (from (c .address)) l) (c .guarantee) + S r l))
     by true q h i =
         let same : e .ids .sender ≡ c .address = eqb-true _ _ q in
         let rest : countIf (isAt (e .ids .sender)) r ≡ 0 = rw same (rest-apart c r d) in
-        let o = S-other r l e rest in
-        (omega arith, λ k. let m : countIf (from (c .address)) l < c .guarantee = rw same at k in omega arith)
+        let o = S-other r l e rest in (
+          omega arith,
+          λ k. let m : countIf (from (c .address)) l < c .guarantee = rw same at k in omega arith,
+          λ k. let m : c .guarantee ≤ countIf (from (c .address)) l = rw same at k in omega arith,
+        )
     by false q h i =
         let j = i (omega arith) in
-        (omega (arith, j .0), λ k. let m = j .1 k in omega arith)
+        (omega (arith, j .0), λ k. let m = j .1 k in omega arith, λ k. let m = j .2 k in omega arith)
 
 -- ---- a free slot
 

@@ -3,22 +3,24 @@
 use Prim.Native.Nat.{ℕ, _+_, _≤_, _<_}
 use native.Mathlib.Omega.{arith}
 use mathlib.Core.Path.{_≡_, refl, ap}
+use mathlib.Core.Logic.{⊎-elim}
 use mathlib.Core.List.{List, [], _∷_}
 use mathlib.Core.Bool.{Bool, true, false, cond, not, _||_, _&&_}
 use lib.Dec.{ltb, leb, eqb}
 use borrow.Author.Tests.{eqb-true, ltb-false, le-ltb, leb-true, le-leb, not-true}
 use Rattle.lists.specs.Count.{bit, countIf, has, noTwo}
-use Rattle.lists.specs.Below.{elementIf, everyBelow}
+use Rattle.lists.specs.Below.{everyBelow}
 use Rattle.lists.proofs.Tests.{both}
 use Rattle.lists.proofs.Count.{has-true, has-false, true-has, false-has}
-use Rattle.lists.proofs.Below.{below-nothing, every-at, every-within}
+use Rattle.lists.proofs.Below.{every-at, every-within}
 use Rattle.lists.proofs.Once.{no-two-once, once-no-two}
 use Rattle.table.specs.Table.{Table}
 use Rattle.table.specs.Total.{totalOf}
 use Rattle.table.specs.Word.{isUsed}
-use Rattle.table.specs.Lists.{Terms, listedAt, roster, Entry, callAt, entries, Held, held}
+use Rattle.table.specs.Lists.{Terms, roster, Entry, callAt, entries, Held, held}
 use Rattle.table.specs.Share.{isAt, isListed, guaranteeOf, limitOf, callsOf, S}
 use Rattle.table.specs.Rules.{badShare, sameAddress, guarantees, acceptable, rosterHolds, unlisted, overLimit, sameShort, sameLong, validIds, sameConnection, slotFreeClear, recordFreeClear, rosterAcceptable, sendersListed, withinLimits, shareWithinTotal, shortIdsOnce, longIdsOnce, namesAndIds, connectionsOnce, freeHoldsZeros, holds, rulesHold}
+use Rattle.table.proofs.Addresses.{roster-cases, acceptable-apart}
 use Rattle.spec_changes.proofs.Alike.{self, short-self, long-self, lsp-self, short-alike, long-alike, lsp-alike}
 use Rattle.spec_changes.proofs.Kept.{RosterKept, Kept}
 
@@ -31,11 +33,6 @@ failed : (b : Bool) → bit b ≡ 0 → b ≡ false
 failed true h = let z : ⊥ = omega arith in absurd z
 failed false h = refl
 
--- ---- equal tests
-
-address-alike : (a b d : ℕ) → eqb a b ≡ true → eqb a d ≡ eqb b d
-address-alike a b d h = rw (eqb-true a b h)
-
 -- ---- the roster
 
 acceptable-kept : (total : ℕ) (r : List Terms) → acceptable total r ≡ true → RosterKept total r
@@ -45,27 +42,16 @@ acceptable-kept total r h =
     let b = both (not (has (badShare total) r)) (noTwo sameAddress r) (a .0) in
     record {
       shares = none (badShare total) r (b .0);
-      apart = no-two-once eqb (λ (c : Terms). c .address) address-alike r (b .1);
+      apart = acceptable-apart total r h;
       sum = leb-true (guarantees r) total (a .1);
     }
 
 empty-kept : (total : ℕ) → RosterKept total []
 empty-kept total = record { shares = refl; apart = λ a. omega arith; sum = omega arith }
 
-no-roster : (t : Table) → t .listed ≡ 0 → roster t ≡ []
-unfolding elementIf
-no-roster t h = below-nothing (listedAt t) 8 (λ k l. rw (le-ltb k (t .listed) (omega arith)))
-
 -- what an acceptable (or empty) roster has
 pub roster-kept : (t : Table) → rosterHolds t ≡ true → RosterKept (totalOf t) (roster t)
-unfolding rosterHolds
-roster-kept t h = by (eqb (t .listed) 0) refl h
-  where
-    by : (b : Bool) → eqb (t .listed) 0 ≡ b
-        → cond b (eqb (t .address) 0 && eqb (t .epoch) 0) (leb (t .listed) 8 && ltb (t .epoch) 0x1000000 && acceptable (totalOf t) (roster t)) ≡ true
-        → RosterKept (totalOf t) (roster t)
-    by true e h = rw (no-roster t (eqb-true (t .listed) 0 e)) (empty-kept (totalOf t))
-    by false e h = acceptable-kept (totalOf t) (roster t) (both (leb (t .listed) 8 && ltb (t .epoch) 0x1000000) (acceptable (totalOf t) (roster t)) h .1)
+roster-kept t h = ⊎-elim (λ e. rw e (empty-kept (totalOf t))) (λ a. acceptable-kept (totalOf t) (roster t) a) (roster-cases t h)
 
 -- a guarantee is within its limit
 pub guarantee-within : (total : ℕ) (r : List Terms) (a : ℕ) → countIf (badShare total) r ≡ 0 → guaranteeOf r a ≤ limitOf r a

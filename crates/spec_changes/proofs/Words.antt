@@ -1,6 +1,6 @@
 -- The table of any 32-bit words has the shape of every table, and names of 32 bytes.
 -- Assumes nothing.
-use Prim.Native.Nat.{ℕ, _+_, _*_, _<_}
+use Prim.Native.Nat.{ℕ, _+_, _*_, _≤_, _<_}
 use native.Mathlib.Omega.{arith}
 use mathlib.Core.Path.{_≡_, refl}
 use mathlib.Core.List.{List}
@@ -14,10 +14,13 @@ use Rattle.table.specs.Words.{customerStart, callStart, placeAtWord, nameAtWord
 use Rattle.spec_changes.specs.Shape.{Shape}
 
 module _ (w : List ℕ) where
+  pub words-calls : total ≤ length (tableOf w .calls)
+  words-calls = omega (arith, length-each (λ i. callAtWord w (callStart i)) total)
+
   -- the occupancy word is two words
   pub words-shape : getD w 4 0 < 0x100000000 → getD w 5 0 < 0x100000000 → Shape (tableOf w)
   words-shape low high = record {
-    calls = omega (arith, length-each (λ i. callAtWord w (callStart i)) total);
+    calls = words-calls;
     customers = length-each (λ k. customerAtWord w (customerStart k)) 8;
     word = omega arith;
     places = λ i h. rw (getD-each (λ i. callAtWord w (callStart i)) total i pastCall h) (length-each (λ j. placeAtWord w (callStart i + 16 + 4 * j)) 4);

@@ -109,8 +109,8 @@ module _ (t fresh : Table) (s : List ℕ) (k : Kept t) (c : Copied t s)
       let was = free fresh (r .slot) (c .slots i h) (idle _) in
       rw (
         lt-ltb _ _ (c .slots i h),
-        kept-rules (placed fresh r) (placed-kept fresh r shape (c .slots i h) was (record-bare s i) kept
-            (part (entries (placed fresh r)) (λ p. omega (arith, placed-entries fresh r shape (c .slots i h) was (record-bare s i) p, idle p, one i h p)))
+        kept-rules (placed fresh r) (placed-kept fresh r (shape .calls) (c .slots i h) was (record-bare s i) kept
+            (part (entries (placed fresh r)) (λ p. omega (arith, placed-entries fresh r (shape .calls) (c .slots i h) was (record-bare s i) p, idle p, one i h p)))
             (c .names i h) (c .clear i h)),
       )
 
@@ -162,8 +162,8 @@ module _ (t fresh : Table) (s : List ℕ) (k : Kept t) (c : Copied t s)
         free u (r .slot) (c .slots i h) (omega (arith, b .calls p, own, more i h p, slot-used t (r .slot) (c .slots i h), one-bit (isUsed (t .occupied) (r .slot))))
 
     next : Kept (placed u r)
-    next = placed-kept u r (b .shape) (c .slots i h) was (record-bare s i) (b .kept)
-        (rw (b .same) (part (entries (placed u r)) (λ p. omega (arith, placed-entries u r (b .shape) (c .slots i h) was (record-bare s i) p, b .calls p, more i h p))))
+    next = placed-kept u r (b .shape .calls) (c .slots i h) was (record-bare s i) (b .kept)
+        (rw (b .same) (part (entries (placed u r)) (λ p. omega (arith, placed-entries u r (b .shape .calls) (c .slots i h) was (record-bare s i) p, b .calls p, more i h p))))
         (c .names i h) (c .clear i h)
 
     goes-on : withCalls fresh s (suc i) ≡ placed u r
@@ -186,9 +186,9 @@ module _ (t fresh : Table) (s : List ℕ) (k : Kept t) (c : Copied t s)
       shape = rw goes-on (used-shape u (r .slot) (r .call) (b .shape) (c .slots i h) refl);
       kept = rw goes-on next;
       same = rw goes-on (b .same);
-      calls = λ p. rw goes-on (omega (arith, placed-entries u r (b .shape) (c .slots i h) was (record-bare s i) p, b .calls p, count-below f p i));
+      calls = λ p. rw goes-on (omega (arith, placed-entries u r (b .shape .calls) (c .slots i h) was (record-bare s i) p, b .calls p, count-below f p i));
       fields = rw goes-on next-fields;
-      connections = λ p. rw goes-on (placed-held u r (b .shape) (c .slots i h) was (record-bare s i) p ∙ b .connections p);
+      connections = λ p. rw goes-on (placed-held u r (b .shape .calls) (c .slots i h) was (record-bare s i) p ∙ b .connections p);
     }
 
   unused : (j : ℕ) → j < totalOf t → isUsed (fresh .occupied) j ≡ true → callAt fresh j ≡ withoutPlaces (callAt t j)

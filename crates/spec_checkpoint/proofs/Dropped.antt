@@ -59,7 +59,7 @@ module _ (r s : List ℕ) (b : Bytes r) (d : Bytes s) (e : rosterAnswer r ≡ Ac
       let k = both (keptByLongId fresh s n) (callFits t (callRecord s n)) q in
       let free = not-true (isUsed (t .occupied) (callRecord s n .slot)) (both _ _ (k .1) .0) in
       let in-total = kept-inside fresh s n (k .0) in
-      (omega (arith, placed-entries t (callRecord s n) (i .shape) in-total free (record-bare s n) (λ x. true)), placed-held t (callRecord s n) (i .shape) in-total free (record-bare s n) (λ x. true))
+      (omega (arith, placed-entries t (callRecord s n) (i .shape .calls) in-total free (record-bare s n) (λ x. true)), placed-held t (callRecord s n) (i .shape .calls) in-total free (record-bare s n) (λ x. true))
 
   calls-told : (n : ℕ) → (size (entries (withCalls fresh s n)) + countBelow (callDropped r s) n ≡ n) × (size (held (withCalls fresh s n)) ≡ 0)
   unfolding withCalls

@@ -1,11 +1,12 @@
 -- A call put into a free slot: one entry more, the same connections; and every rule is kept where the open calls still
 -- keep theirs.
 -- Assumes nothing.
-use Prim.Native.Nat.{ℕ, _+_, _<_}
+use Prim.Native.Nat.{ℕ, _+_, _≤_, _<_}
 use native.Mathlib.Omega.{arith}
 use mathlib.Core.Path.{_≡_, refl}
 use mathlib.Core.List.{List, []}
 use mathlib.Core.Bool.{Bool, true, false}
+use lib.ListN.{length}
 use Rattle.lists.specs.Count.{bit, countIf}
 use Rattle.lists.specs.Below.{elementIf, below}
 use Rattle.table.specs.Table.{Table}
@@ -14,7 +15,6 @@ use Rattle.table.specs.Word.{isUsed, withUsed}
 use Rattle.table.specs.Lists.{roster, idsOf, Entry, entries, Held, callFour, heldIn, held}
 use Rattle.table.specs.Rules.{rosterHolds, validIds, sameConnection, callFreeClear}
 use Rattle.table.proofs.Slots.{used-here, used-other}
-use Rattle.spec_changes.specs.Shape.{Shape}
 use Rattle.spec_changes.proofs.Kept.{CallsKept, Kept}
 use Rattle.spec_changes.proofs.Slot.{slot-entries, slot-held, slot-names, slot-free-clear}
 use Rattle.spec_checkpoint.specs.Layout.{Slotted, callRecord}
@@ -28,7 +28,7 @@ pub record-bare : (s : List ℕ) (i : ℕ) → heldIn (callFour (callRecord s i 
 unfolding below elementIf
 record-bare s i = refl
 
-module _ (t : Table) (r : Slotted) (s : Shape t) (inside : r .slot < totalOf t) (was : isUsed (t .occupied) (r .slot) ≡ false) (none : heldIn (callFour (r .call)) ≡ []) where
+module _ (t : Table) (r : Slotted) (long : totalOf t ≤ length (t .calls)) (inside : r .slot < totalOf t) (was : isUsed (t .occupied) (r .slot) ≡ false) (none : heldIn (callFour (r .call)) ≡ []) where
   abbrev word : ℕ
   word = withUsed (t .occupied) (r .slot)
 
@@ -39,10 +39,10 @@ module _ (t : Table) (r : Slotted) (s : Shape t) (inside : r .slot < totalOf t) 
   other = used-other (t .occupied) (r .slot)
 
   pub placed-entries : (p : Entry → Bool) → countIf p (entries (placed t r)) ≡ bit (p (entryOf r)) + countIf p (entries t)
-  placed-entries p = omega (arith, (rw (was, is) at (slot-entries t word (r .slot) (r .call) inside (s .calls) other p)))
+  placed-entries p = omega (arith, (rw (was, is) at (slot-entries t word (r .slot) (r .call) inside long other p)))
 
   pub placed-held : (p : Held → Bool) → countIf p (held (placed t r)) ≡ countIf p (held t)
-  placed-held p = omega (arith, (rw (was, is, none) at (slot-held t word (r .slot) (r .call) inside (s .calls) other p)))
+  placed-held p = omega (arith, (rw (was, is, none) at (slot-held t word (r .slot) (r .call) inside long other p)))
 
   pub placed-kept : Kept t → CallsKept (totalOf t) (roster t) (entries (placed t r)) → validIds (r .call) ≡ true → callFreeClear (r .call) ≡ true → Kept (placed t r)
   unfolding rosterHolds
@@ -50,7 +50,7 @@ module _ (t : Table) (r : Slotted) (s : Shape t) (inside : r .slot < totalOf t) 
     accepted = k .accepted;
     calls = calls;
     once = λ x. rw (placed-held (sameConnection x)) (k .once x);
-    names = slot-names t word (r .slot) (r .call) inside (s .calls) other (k .names) (λ u. listIf);
-    slots = slot-free-clear t word (r .slot) (r .call) inside (s .calls) other (k .slots) (rw is clear);
+    names = slot-names t word (r .slot) (r .call) inside long other (k .names) (λ u. listIf);
+    slots = slot-free-clear t word (r .slot) (r .call) inside long other (k .slots) (rw is clear);
     records = k .records;
   }

@@ -1,6 +1,7 @@
 pub mod Ones
 pub mod SameBytes
 pub mod Slots
+pub mod Addresses
 pub mod Fresh
 pub mod Cells
 pub mod Names

@@ -1,8 +1,8 @@
 // The occupancy word: bit i says that slot i is used.
 ghost use mathlib.Core.Path.{_≡_};
-ghost use Prim.Native.Nat.{_<_};
+ghost use Prim.Native.Nat.{_≤_, _<_};
 ghost use Rattle.table.specs.Total.{total};
-ghost use Rattle.table.specs.Word.{isUsed, lowestFree, withUsed, withFree};
+ghost use Rattle.table.specs.Word.{isUsed, lowestFree, withUsed, withFree, FreeFrom};
 
 // Whether a slot is used. The word has a bit for each of the slots below `SLOTS`, and no other.
 pub fn is_used(word: u64, slot: usize) -> bool
@@ -17,6 +17,13 @@ pub fn lowest_free(word: u64) -> usize
     ensures { λ r. ⌜ r ≡ lowestFree word ⌝ }
 {
     u64::trailing_zeros(!word) as usize
+}
+
+// The number of slots up to the last used one, by the word's leading zeros: loops over the calls end there.
+pub fn used_below(word: u64) -> usize
+    ensures { λ r. ⌜ (r ≤ total) × FreeFrom word r ⌝ }
+{
+    64 - (u64::leading_zeros(word) as usize)
 }
 
 // The word with a slot marked as used, whatever it was.

@@ -3,7 +3,7 @@
 use Prim.Native.Nat.{ℕ, _+_, _<_}
 use native.Mathlib.Nat.{not-suc-le-zero}
 use native.Mathlib.Omega.{arith}
-use mathlib.Core.Path.{_≡_, refl, sym, ap, _∙_}
+use mathlib.Core.Path.{_≡_, refl, ap, _∙_}
 use mathlib.Core.List.{List}
 use mathlib.Core.Bool.{Bool, true, false}
 use lib.Dec.{eqb}
@@ -11,10 +11,9 @@ use lib.ListN.{length, getD, set, length-set}
 use lib.Seq.{getD-set-same, getD-set-other}
 use borrow.Author.Tests.{eqb-true, eqb-false}
 use Rattle.table.specs.Total.{total}
-use Rattle.table.specs.Lists.{callAt}
 use Rattle.table.specs.Stores.{withSlot}
 use Rattle.table.specs.Words.{callAtWord, callStart, occupiedOf, tableOf}
-use Rattle.table.proofs.Cells.{call-at, call-same}
+use Rattle.table.proofs.Cells.{call-same}
 use Rattle.table_words.proofs.Stored.{Elsewhere, slot-changed}
 
 -- v is w, but for the first k of x from a place on
@@ -43,27 +42,9 @@ one-copied w x v b k y fits e c = record {
         less : (j k : ℕ) → j < k + 1 → (j ≡ k → ⊥) → j < k
         less j k l n = omega arith
 
--- the same into a list of its own
-pub taken-out : (w x : List ℕ) (b k y : ℕ) → k < length x → y ≡ getD w (b + k) 0 → ((j : ℕ) → j < k → getD x j 0 ≡ getD w (b + j) 0)
-    → (j : ℕ) → j < k + 1 → getD (set x k y) j 0 ≡ getD w (b + j) 0
-taken-out w x b k y fits e h j l = at (eqb j k) refl
-  where
-    at : (s : Bool) → eqb j k ≡ s → getD (set x k y) j 0 ≡ getD w (b + j) 0
-    at true q = rw (eqb-true j k q) (getD-set-same x k y 0 fits ∙ e)
-    at false q =
-        let n = eqb-false j k q in
-        getD-set-other x k j y 0 n ∙ h j (less j k l n)
-      where
-        less : (j k : ℕ) → j < k + 1 → (j ≡ k → ⊥) → j < k
-        less j k l n = omega arith
-
--- a slot's words stored, and read
+-- a slot's words stored
 pub slot-stored : (w x v : List ℕ) (i : ℕ) → i < total → Copied w x v (callStart i) 32
     → tableOf v ≡ withSlot (tableOf w) (occupiedOf w) i (callAtWord x 0)
 slot-stored w x v i l c =
     slot-changed w v i l (c .other)
     ∙ ap (λ d. withSlot (tableOf w) (occupiedOf w) i d) (call-same v x (callStart i) 0 (λ k m. c .here k m ∙ ap (λ (n : ℕ). getD x n 0) (omega arith)))
-
-pub slot-copied : (w x : List ℕ) (i : ℕ) → i < total → ((j : ℕ) → j < 32 → getD x j 0 ≡ getD w (callStart i + j) 0)
-    → callAtWord x 0 ≡ callAt (tableOf w) i
-slot-copied w x i l h = call-same x w 0 (callStart i) (λ k m. ap (λ (n : ℕ). getD x n 0) (omega arith) ∙ h k m) ∙ sym (call-at w i l)

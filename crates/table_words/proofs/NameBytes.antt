@@ -1,4 +1,4 @@
--- A name's bytes in its words: one byte, the bytes past the name, a name of bytes as words.
+-- A name's bytes in its words: one byte, one word, a name of bytes as words.
 -- Assumes nothing.
 use Prim.Native.Nat.{ℕ, zero, suc, _+_, _*_, _-_, _/_, _%_, _^_, _≤_, _<_}
 use native.Mathlib.Nat.{add-zero, zero-add, eq-or-lt-of-le, le-of-suc-le-suc, not-suc-le-zero, lt-irrefl}
@@ -7,19 +7,18 @@ use native.Mathlib.Omega.{arith}
 use mathlib.Core.Path.{_≡_, refl, sym, ap, _∙_}
 use mathlib.Core.Logic.{⊎-elim}
 use mathlib.Core.List.{List, [], _∷_, _++_}
-use mathlib.Core.Bool.{Bool, true, false, _||_}
+use mathlib.Core.Bool.{Bool, true, false}
 use lib.Dec.{ltb, eqb}
 use lib.ListN.{length, getD, set, take, drop, replicate, length-append, length-set, length-take, length-drop, List·getD-append, List·getD-eq-default, drop-of-length-le}
 use lib.Seq.{drop-cons, getD-append-add, getD-take, getD-drop, getD-set-same, getD-set-other, ext-getD}
-use borrow.Author.Tests.{eq-eqb, eqb-true, ltb-true, ltb-false, lt-ltb, le-ltb}
+use borrow.Author.Tests.{eqb-true, ltb-true, ltb-false}
 use Rattle.numbers.specs.Search.{zerosAt}
 use Rattle.numbers.specs.Buffer.{atFront}
-use Rattle.lists.specs.Below.{below, everyBelow}
+use Rattle.lists.specs.Below.{below}
 use Rattle.lists.proofs.Tests.{both}
-use Rattle.lists.proofs.Below.{every-within, every-at}
 use Rattle.table.specs.Words.{bytesOf, nameAtWord}
-use Rattle.table.proofs.Names.{alike}
 use Rattle.table.proofs.Told.{four}
+use Rattle.table_words.specs.Names.{wordIn}
 
 pub name-long : (w : List ℕ) (b : ℕ) → length (nameAtWord w b) ≡ 32
 unfolding below
@@ -35,22 +34,6 @@ zeros-drop x n (suc m) e h =
     let l : n < length x = omega arith in
     let r : drop (suc n) x ≡ replicate m 0 = rw (add-one n) at (zeros-drop x (n + 1) m (omega arith) (k .1)) in
     rw (drop-cons x n 0 l, r, eqb-true (getD x n 0) 0 (k .0))
-
-zeros-each : (s : List ℕ) (at n : ℕ) → ((j : ℕ) → at ≤ j → j < at + n → getD s j 0 ≡ 0) → zerosAt s at n ≡ true
-unfolding zerosAt
-zeros-each s at zero h = refl
-zeros-each s at (suc n) h =
-    rw (eq-eqb (getD s at 0) 0 (h at (omega arith) (omega arith)), zeros-each s (at + 1) n (λ j l m. h j (omega arith) (omega arith)))
-
-zeros-here : (s : List ℕ) (at n : ℕ) → zerosAt s at n ≡ true → (j : ℕ) → at ≤ j → j < at + n → getD s j 0 ≡ 0
-unfolding zerosAt
-zeros-here s at zero h j l m = let z : ⊥ = omega arith in absurd z
-zeros-here s at (suc n) h j l m =
-    let k = both (eqb (getD s at 0) 0) (zerosAt s (at + 1) n) h in
-    ⊎-elim
-    (λ (e : at ≡ j). rw (← e) (eqb-true (getD s at 0) 0 (k .0)))
-    (λ (b : at < j). zeros-here s (at + 1) n (k .1) j (omega arith) (omega arith))
-    (eq-or-lt-of-le l)
 
 -- ---- an element of cells of four
 
@@ -77,6 +60,14 @@ module _ (w : List ℕ) (b : ℕ) where
       let s : k ≡ 4 * (k / 4) + k % 4 = omega arith in
       ap (λ (n : ℕ). getD (nameAtWord w b) n 0) s ∙ name-at (k / 4) (k % 4) (omega arith) (omega arith)
 
+  -- a word is its four bytes
+  pub name-word-at : (k : ℕ) → k < 8 → getD w (b + k) 0 ≡ wordIn (nameAtWord w b) k
+  name-word-at k h =
+      let x = getD w (b + k) 0 in
+      let first = ap (λ (n : ℕ). getD (nameAtWord w b) n 0) (sym (add-zero (4 * k))) ∙ name-at k 0 h (omega arith) in
+      let e : x ≡ x % 256 + x / 256 % 256 * 256 + x / 65536 % 256 * 65536 + x / 16777216 * 16777216 = omega arith in
+      rw (first, name-at k 1 h (omega arith), name-at k 2 h (omega arith), name-at k 3 h (omega arith)) e
+
 -- ---- one byte of a word, by a shift
 
 pub byte-shifted : (x : ℕ) → x < 4294967296 → (j : ℕ) → j < 4 → x / 2 ^ (8 * j) % 256 ≡ getD (bytesOf x) j 0
@@ -86,103 +77,6 @@ byte-shifted x h =
     refl
     refl
     (omega arith)
-
--- ---- the bytes of a word from one of them on
-
--- a test of the bytes from n on
-abbrev pub clearFrom : ℕ → ℕ → Bool
-clearFrom x n = everyBelow (λ j. ltb j n || eqb (getD (bytesOf x) j 0) 0) 4
-
-or-right : (a b : Bool) → (a || b) ≡ true → a ≡ false → b ≡ true
-or-right true b h e = cc
-or-right false b h e = h
-
-from-zeros : (x n : ℕ) → ((j : ℕ) → j < 4 → n ≤ j → getD (bytesOf x) j 0 ≡ 0) → clearFrom x n ≡ true
-from-zeros x n h = every-within _ 4 (λ j l. go j l (ltb j n) refl)
-  where
-    go : (j : ℕ) → j < 4 → (s : Bool) → ltb j n ≡ s → (s || eqb (getD (bytesOf x) j 0) 0) ≡ true
-    go j l true e = refl
-    go j l false e = eq-eqb _ _ (h j l (ltb-false j n e))
-
-zeros-from : (x n : ℕ) → clearFrom x n ≡ true → (j : ℕ) → j < 4 → n ≤ j → getD (bytesOf x) j 0 ≡ 0
-zeros-from x n h j l m =
-    eqb-true _ _ (or-right (ltb j n) _ (every-at (λ j. ltb j n || eqb (getD (bytesOf x) j 0) 0) 4 h j l) (le-ltb j n m))
-
-pub clear-from-four : (x n : ℕ) → 4 ≤ n → true ≡ clearFrom x n
-clear-from-four x n h = sym (from-zeros x n (λ j l m. let z : ⊥ = omega arith in absurd z))
-
--- the last bytes are zero where the word is small
-small-3 : (x : ℕ) → x / 16777216 ≡ 0 → x < 16777216
-small-3 x h = omega arith
-
-small-2 : (x : ℕ) → x / 65536 % 256 ≡ 0 → x / 16777216 ≡ 0 → x < 65536
-small-2 x h k = omega arith
-
-small-1 : (x : ℕ) → x / 256 % 256 ≡ 0 → x < 65536 → x < 256
-small-1 x h k = omega arith
-
-pub clear-from-three : (x : ℕ) → ltb x 16777216 ≡ clearFrom x 3
-clear-from-three x =
-    alike _ _
-    (λ h. let l = ltb-true x 16777216 h in
-    from-zeros x 3 (four (λ j. 3 ≤ j → getD (bytesOf x) j 0 ≡ 0)
-    (λ m. let z : ⊥ = omega arith in absurd z)
-    (λ m. let z : ⊥ = omega arith in absurd z)
-    (λ m. let z : ⊥ = omega arith in absurd z)
-    (λ m. omega arith)))
-    (λ h. let g = zeros-from x 3 h in lt-ltb x 16777216 (small-3 x (g 3 (omega arith) (omega arith))))
-
-pub clear-from-two : (x : ℕ) → ltb x 65536 ≡ clearFrom x 2
-clear-from-two x =
-    alike _ _
-    (λ h. let l = ltb-true x 65536 h in
-    from-zeros x 2 (four (λ j. 2 ≤ j → getD (bytesOf x) j 0 ≡ 0)
-    (λ m. let z : ⊥ = omega arith in absurd z)
-    (λ m. let z : ⊥ = omega arith in absurd z)
-    (λ m. omega arith)
-    (λ m. omega arith)))
-    (λ h. let g = zeros-from x 2 h in lt-ltb x 65536 (small-2 x (g 2 (omega arith) (omega arith)) (g 3 (omega arith) (omega arith))))
-
-pub clear-from-one : (x : ℕ) → ltb x 256 ≡ clearFrom x 1
-clear-from-one x =
-    alike _ _
-    (λ h. let l = ltb-true x 256 h in
-    from-zeros x 1 (four (λ j. 1 ≤ j → getD (bytesOf x) j 0 ≡ 0)
-    (λ m. let z : ⊥ = omega arith in absurd z)
-    (λ m. omega arith)
-    (λ m. omega arith)
-    (λ m. omega arith)))
-    (λ h. let g = zeros-from x 1 h in
-    lt-ltb x 256 (small-1 x (g 1 (omega arith) (omega arith)) (small-2 x (g 2 (omega arith) (omega arith)) (g 3 (omega arith) (omega arith)))))
-
-pub clear-from-none : (x : ℕ) → eqb x 0 ≡ clearFrom x 0
-clear-from-none x =
-    alike _ _
-    (λ h. let l : x ≡ 0 = eqb-true x 0 h in
-    from-zeros x 0 (four (λ j. 0 ≤ j → getD (bytesOf x) j 0 ≡ 0) (λ m. omega arith) (λ m. omega arith) (λ m. omega arith) (λ m. omega arith)))
-    (λ h. let g = zeros-from x 0 h in
-    let s : x < 256 = small-1 x (g 1 (omega arith) (omega arith)) (small-2 x (g 2 (omega arith) (omega arith)) (g 3 (omega arith) (omega arith))) in
-    let e : x % 256 ≡ 0 = g 0 (omega arith) (omega arith) in
-    eq-eqb x 0 (omega arith))
-
--- ---- the bytes past a name
-
--- word by word, each from the byte that is past the name
-pub past-name : (w : List ℕ) (b size : ℕ) → everyBelow (λ k. clearFrom (getD w (b + k) 0) (size - 4 * k)) 8 ≡ zerosAt (nameAtWord w b) size (32 - size)
-past-name w b size = alike _ _ bytes words
-  where
-    bytes : everyBelow (λ k. clearFrom (getD w (b + k) 0) (size - 4 * k)) 8 ≡ true → zerosAt (nameAtWord w b) size (32 - size) ≡ true
-    bytes h =
-        zeros-each (nameAtWord w b) size (32 - size)
-        (λ j l m.
-        name-byte-at w b j (omega arith)
-        ∙ zeros-from (getD w (b + j / 4) 0) (size - 4 * (j / 4)) (every-at (λ k. clearFrom (getD w (b + k) 0) (size - 4 * k)) 8 h (j / 4) (omega arith)) (j % 4) (omega arith) (omega arith))
-
-    words : zerosAt (nameAtWord w b) size (32 - size) ≡ true → everyBelow (λ k. clearFrom (getD w (b + k) 0) (size - 4 * k)) 8 ≡ true
-    words h =
-        every-within _ 8
-        (λ k l. from-zeros (getD w (b + k) 0) (size - 4 * k)
-        (λ j m n. sym (name-at w b k j l m) ∙ zeros-here (nameAtWord w b) size (32 - size) h (4 * k + j) (omega arith) (omega arith)))
 
 -- ---- a name of bytes as words
 

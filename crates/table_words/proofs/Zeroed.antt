@@ -1,6 +1,6 @@
 -- All words of a slot, of a roster record and of the table are zero.
 -- Assumes nothing.
-use Prim.Native.Nat.{ℕ, _+_, _*_, _<_}
+use Prim.Native.Nat.{ℕ, _+_, _*_, _-_, _<_}
 use native.Mathlib.Omega.{arith}
 use mathlib.Core.Path.{_≡_, refl, sym, ap, _∙_}
 use mathlib.Core.List.{List, [], _∷_}
@@ -12,12 +12,13 @@ use borrow.Author.Tests.{eq-eqb, eqb-true, eqb-false}
 use Rattle.numbers.specs.Search.{zerosAt}
 use Rattle.lists.specs.Below.{below, everyBelow}
 use Rattle.lists.proofs.Tests.{both}
-use Rattle.lists.proofs.Below.{below-ext, every-within, every-at}
+use Rattle.lists.proofs.Below.{below-ext, every-within, every-at, every-same, every-rows}
 use Rattle.table.specs.Total.{total}
+use Rattle.table.specs.Lists.{callAt}
 use Rattle.table.specs.Zeros.{noPlace, noCall, noCustomer, emptyTable}
 use Rattle.table.specs.Rules.{placeClear, callClear, customerClear}
 use Rattle.table.specs.Words.{nameAtWord, placeAtWord, placesAtWord, callAtWord, customerAtWord, customersOf, slotsOf, customerStart, callStart, tableOf, wordCount}
-use Rattle.table.proofs.Cells.{call-same, customer-same, place-at, endpoint-at}
+use Rattle.table.proofs.Cells.{call-at, call-same, customer-same, place-at, endpoint-at}
 use Rattle.table.proofs.Names.{alike}
 use Rattle.table.proofs.Told.{call-told, customer-told}
 use Rattle.table_words.proofs.NameBytes.{zero-get, name-long, zeros-drop}
@@ -129,6 +130,17 @@ module _ (w : List ℕ) (b : ℕ) where
       alike _ _
       (λ h. ap customerClear (customer-zeros w b (λ k l. eqb-true _ _ (every-at (λ k. eqb (getD w (b + k) 0) 0) 23 h k l))) ∙ customer-clear)
       (λ h. every-within _ 23 (λ k l. eq-eqb _ _ (customer-told w [] b (clear-customer w b h ∙ sym (customer-zeros [] b (λ k l. refl))) k l)))
+
+-- the words of the slots from n on stand in one row
+pub clear-calls-words : (w : List ℕ) (n : ℕ)
+    → everyBelow (λ k. eqb (getD w (callStart n + k) 0) 0) (32 * (total - n)) ≡ everyBelow (λ j. callClear (callAt (tableOf w) (n + j))) (total - n)
+clear-calls-words w n =
+    every-rows (λ k. eqb (getD w (callStart n + k) 0) 0) 32 (total - n)
+    ∙ every-same _ _ (total - n)
+    (λ j l.
+    every-same _ _ 32 (λ k m. ap (λ (b : ℕ). eqb (getD w b 0) 0) (omega arith))
+    ∙ clear-call-words w (callStart (n + j))
+    ∙ ap callClear (sym (call-at w (n + j) (omega arith))))
 
 -- ---- the whole table
 

@@ -1,6 +1,7 @@
 // A slot's call. Whoever asks says why the slot is one of the table's.
 ghost use mathlib.Core.Path.{_≡_};
-ghost use Prim.Native.Nat.{_<_};
+ghost use Prim.Native.Nat.{_+_, _-_, _≤_, _<_};
+ghost use Rattle.lists.specs.Below.{everyBelow};
 ghost use Rattle.table.specs.Total.{total};
 ghost use Rattle.table.specs.Lists.{callAt};
 ghost use Rattle.table.specs.Rules.{sameBytes, callClear};
@@ -17,9 +18,11 @@ use table::layout::FIRST_CALL;
 use table::layout::IDENTIFIER;
 use table::layout::MADE;
 use table::layout::NAME;
+use table::layout::NAME_WORDS;
 use table::layout::REFRESHED;
 use table::layout::SENDER;
 use table::layout::SIZE;
+use table::layout::SLOTS;
 use table::layout::Words;
 
 // A table's word for a Call ID: any number, until the rules are known to hold.
@@ -70,6 +73,22 @@ pub fn is_named(t: &Words, i: usize, name: &[u32; 8]) -> bool
     same
 }
 
+// Two slots' names, all 32 bytes of them, are the same.
+pub fn same_names(t: &Words, j: usize, i: usize) -> bool
+    requires { ⌜ (j < total) × (i < total) ⌝ }
+    ensures { λ r. ⌜ r ≡ sameBytes (callAt (tableOf (now (t .entry))) j .name) (callAt (tableOf (now (t .entry))) i .name) ⌝ }
+{
+    let b = FIRST_CALL + CALL_WORDS * j + NAME;
+    let c = FIRST_CALL + CALL_WORDS * i + NAME;
+    let mut same = true;
+    let mut k: usize = 0;
+    while k < NAME_WORDS {
+        same = same & (word(t, b, k) == word(t, c, k));
+        k += 1;
+    }
+    same
+}
+
 // A free slot: all of its words are zero.
 pub fn call_clear(t: &Words, i: usize) -> bool
     requires { ⌜ i < total ⌝ }
@@ -78,19 +97,13 @@ pub fn call_clear(t: &Words, i: usize) -> bool
     zero_words(t, FIRST_CALL + CALL_WORDS * i, CALL_WORDS)
 }
 
-// The words of a slot, to be put back.
-pub fn slot_words(t: &Words, i: usize) -> [u32; 32]
-    requires { ⌜ i < total ⌝ }
-    ensures { λ r. ⌜ callAtWord r 0 ≡ callAt (tableOf (now (t .entry))) i ⌝ }
+// The slots from n on are free: their words stand in one row, and all are zero. Whoever asks has n from the occupancy
+// word.
+pub fn calls_clear_from(t: &Words, n: usize) -> bool
+    requires { ⌜ n ≤ total ⌝ }
+    ensures { λ r. ⌜ r ≡ everyBelow (λ j. callClear (callAt (tableOf (now (t .entry))) (n + j))) (total - n) ⌝ }
 {
-    let b = FIRST_CALL + CALL_WORDS * i;
-    let mut x = [0u32; 32];
-    let mut k: usize = 0;
-    while k < 32 {
-        x[k] = word(t, b, k);
-        k += 1;
-    }
-    x
+    zero_words(t, FIRST_CALL + CALL_WORDS * n, CALL_WORDS * (SLOTS - n))
 }
 
 // The words of a call with nothing under it.

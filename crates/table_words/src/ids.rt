@@ -1,5 +1,5 @@
-// The comparisons of IDs and of the table's words for them, kind by kind, so that none is taken for another: no other
-// function compares what is in them.
+// The comparisons of IDs and of the table's words for them, kind by kind, so that none is taken for another. No other
+// function compares what is in them, but for the columns of `rule_connections`, each of which has words of one kind.
 ghost use mathlib.Core.Path.{_≡_};
 ghost use mathlib.Core.Bool.{not, _&&_};
 ghost use lib.Dec.{eqb, ltb};
@@ -31,18 +31,6 @@ pub fn is_lsp(id: LspId, word: LspWord) -> bool
 
 // Two words of the table.
 pub fn same_call(a: CallWord, b: CallWord) -> bool
-    ensures { λ r. ⌜ r ≡ eqb (a .0) (b .0) ⌝ }
-{
-    a.0 == b.0
-}
-
-pub fn same_tunnel(a: TunnelWord, b: TunnelWord) -> bool
-    ensures { λ r. ⌜ r ≡ eqb (a .0) (b .0) ⌝ }
-{
-    a.0 == b.0
-}
-
-pub fn same_lsp(a: LspWord, b: LspWord) -> bool
     ensures { λ r. ⌜ r ≡ eqb (a .0) (b .0) ⌝ }
 {
     a.0 == b.0

@@ -1,21 +1,16 @@
 // The bytes of a call's name, four to a word, the low one first.
 ghost use mathlib.Core.Path.{_≡_};
-ghost use Prim.Native.Nat.{_+_, _-_, _≤_, _<_, min};
-ghost use lib.Dec.{ltb, eqb};
+ghost use Prim.Native.Nat.{_+_, _≤_, _<_, min};
 ghost use lib.ListN.{length, getD, take, drop, replicate};
-ghost use mathlib.Core.Bool.{_||_};
 ghost use Rattle.numbers.specs.Buffer.{atFront};
-ghost use Rattle.numbers.specs.Search.{zerosAt};
-ghost use Rattle.lists.specs.Below.{everyBelow};
 ghost use Rattle.table.specs.Total.{total};
 ghost use Rattle.table.specs.Lists.{callAt};
 ghost use Rattle.table.specs.Words.{bytesOf, nameAtWord, tableOf};
-use crate::words::to_index;
+ghost use Rattle.table_words.specs.Names.{wordIn};
 use crate::words::word;
 use table::layout::CALL_WORDS;
 use table::layout::FIRST_CALL;
 use table::layout::NAME;
-use table::layout::SIZE;
 use table::layout::Words;
 
 // How many of a name's 32 bytes count.
@@ -39,45 +34,12 @@ pub fn name_byte(t: &Words, i: usize, k: usize) -> u8
     byte_of(word(t, FIRST_CALL + CALL_WORDS * i + NAME, k / 4), k % 4)
 }
 
-// The bytes of a word from one of them on are zero.
-fn bytes_clear_from(word: u32, n: usize) -> bool
-    ensures { λ r. ⌜ r ≡ everyBelow (λ j. ltb j n || eqb (getD (bytesOf word) j 0) 0) 4 ⌝ }
+// One of the eight words of a slot's name: four of its bytes, the low one first.
+pub fn name_word(t: &Words, i: usize, k: usize) -> u32
+    requires { ⌜ (i < total) × (k < 8) ⌝ }
+    ensures { λ r. ⌜ r ≡ wordIn (callAt (tableOf (now (t .entry))) i .name) k ⌝ }
 {
-    if n == 0 {
-        return word == 0;
-    }
-    if n == 1 {
-        return word < 256;
-    }
-    if n == 2 {
-        return word < 65536;
-    }
-    if n == 3 {
-        return word < 16777216;
-    }
-    true
-}
-
-fn what_is_left(n: usize, m: usize) -> usize
-    ensures { λ r. ⌜ r ≡ n - m ⌝ }
-{
-    if m < n { n - m } else { 0 }
-}
-
-// The bytes past a name; a longer size than the name's room leaves none.
-pub fn past_name_clear(t: &Words, i: usize) -> bool
-    requires { ⌜ i < total ⌝ }
-    ensures { λ r. ⌜ r ≡ zerosAt (callAt (tableOf (now (t .entry))) i .name) (callAt (tableOf (now (t .entry))) i .size) (32 - callAt (tableOf (now (t .entry))) i .size) ⌝ }
-{
-    let b = FIRST_CALL + CALL_WORDS * i;
-    let size = to_index(word(t, b, SIZE));
-    let mut clear = true;
-    let mut k: usize = 0;
-    while k < 8 {
-        clear = clear & bytes_clear_from(word(t, b + NAME, k), what_is_left(size, 4 * k));
-        k += 1;
-    }
-    clear
+    word(t, FIRST_CALL + CALL_WORDS * i + NAME, k)
 }
 
 fn byte_word(x: u8) -> u32

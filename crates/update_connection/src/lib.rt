@@ -42,7 +42,7 @@ pub fn customer_of(t: &Words, address: u32) -> usize
     while k < CUSTOMERS {
         let m = customer_head(t, k);
         let here = (k < n) & (address == m.address);
-        at = select(known, at, select(here, k, 0));
+        at = select(here & !known, k, at);
         known = known | here;
         k += 1;
     }
@@ -60,7 +60,7 @@ fn place_with(t: &Words, f: FourPlace, x: Lsp) -> usize
     let mut j: usize = 0;
     while j < PLACES {
         let here = holds_at(t, f, j, x);
-        at = select(held, at, select(here, j, 0));
+        at = select(here & !held, j, at);
         held = held | here;
         j += 1;
     }

@@ -1,6 +1,6 @@
 -- `read_checkpoint` meets its contract: each answer follows from the tests before it.
 use native.Mathlib.Omega.{arith}
-use Rattle.checkpoint_read.proofs.Answered.{size-short, size-wrong, size-right, roster-refused, size-refused, form-refused, checkpoint-read, checkpoint-refused}
+use Rattle.checkpoint_read.proofs.Answered.{size-short, size-wrong, size-right, fresh-rules, fresh-free, roster-refused, size-refused, form-refused, checkpoint-read, checkpoint-refused}
 use borrow.Author.Needs.{needs}
 use Rattle.checkpoint_read.proofs.read_checkpoint.Statement.{statement}
 use Rattle.checkpoint_read.proofs.read_checkpoint.Tie as tie
@@ -81,7 +81,18 @@ returns-4 c =
     (form-refused (g .salvage) (g .roster .now) (g .checkpoint .now) _ _ _ (o .read-roster .ensures .0) (o .read-roster .ensures .1) (m .roster-number .ensures) (omega arith) right (λ e. omega arith))
 
 read-records-requires : tie.Need-read-records-requires
-read-records-requires c κs = search needs
+read-records-requires c κs =
+    let i = c .before .before .before in
+    let k = i .before in
+    let m = k .before .before .before .before in
+    let o = m .before in
+    let b = o .before .before .before in
+    let g = b .before .args in (
+      record { calls = k .before .calls-in .ensures .0; connections = k .connections-in .ensures .0; size = i .if3 .left },
+      k .connections-in .ensures .1,
+      fresh-rules (g .salvage) (g .roster .now) (g .checkpoint .now) _ _ _ (o .read-roster .ensures .0) (o .read-roster .ensures .1) (m .roster-number .ensures) (λ j. b .shared-slice-known .given j .fits) (omega arith),
+      fresh-free (g .salvage) (g .roster .now) (g .checkpoint .now) _ _ _ (o .read-roster .ensures .0) (o .read-roster .ensures .1) (m .roster-number .ensures) (omega arith),
+    )
 
 returns-5 : tie.Need-returns-5
 returns-5 c =

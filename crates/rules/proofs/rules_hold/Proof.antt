@@ -1,69 +1,139 @@
--- `rules_hold` meets its contract: each part tests some of the rules, and the connections of Call ID 0 are tested apart
--- from those under calls.
-use mathlib.Core.Bool.{Bool, true, false, not, _&&_, and-comm}
-use mathlib.Core.Path.{_≡_, refl}
+-- `rules_hold` meets its contract: each part tests some of the rules, and where no two keys are equal nothing stands
+-- twice.
+use mathlib.Core.Bool.{Bool, true, false, not, _&&_, and-false}
+use mathlib.Core.Path.{_≡_, refl, sym, ap₂, _∙_}
+use borrow.Author.Tests.{not-true, not-false}
 use borrow.Author.Needs.{needs}
-use Rattle.table.specs.Rules.{sameConnection, holds, rosterAcceptable, sendersListed, withinLimits, shareWithinTotal, shortIdsOnce, longIdsOnce, namesAndIds, freeHoldsZeros, rulesHold}
-use Rattle.table.specs.Lists.{heldAt, standaloneAt}
+use Rattle.lists.proofs.Tests.{both}
+use Rattle.table.specs.Table.{Table}
+use Rattle.table.specs.Rules.{holds, rosterAcceptable, sendersListed, withinLimits, shareWithinTotal, shortIdsOnce, longIdsOnce, namesAndIds, connectionsOnce, freeHoldsZeros, rulesHold}
 use Rattle.table.specs.Words.{tableOf}
-use Rattle.table.specs.Total.{totalOf}
-use Rattle.lists.proofs.Pairs.{no-two-append}
-use Rattle.lists.specs.Count.{noTwo}
-use Rattle.lists.specs.Below.{below}
-use Rattle.lists.specs.Pairs.{meet}
+use Rattle.rule_keys.proofs.SameKey.{keys-say}
 use Rattle.rules.proofs.rules_hold.Statement.{statement}
 use Rattle.rules.proofs.rules_hold.Tie as tie
 
--- the parts in the order in which they are tested, and in the order of the rules
-regrouped : (r s w h a b c k n z : Bool) → (r && s && (w && h) && (a && b && c) && k && n && z) ≡ (r && s && w && h && a && b && n && (c && k) && z)
-regrouped false s w h a b c k n z = refl
-regrouped true false w h a b c k n z = refl
-regrouped true true false h a b c k n z = refl
-regrouped true true true false a b c k n z = refl
-regrouped true true true true false b c k n z = refl
-regrouped true true true true true false c k n z = refl
-regrouped true true true true true true c k n z = rw (and-comm (c && k) n)
+-- the rules in the order in which they stand, and in the order in which they are tested
+regrouped : (r l w h a b n c z : Bool) → (r && l && w && h && a && b && n && c && z) ≡ (r && (n && z) && (l && w && h && (a && b && c)))
+regrouped false l w h a b n c z = refl
+regrouped true false w h a b n c z = sym (and-false (n && z))
+regrouped true true false h a b n c z = sym (and-false (n && z))
+regrouped true true true false a b n c z = sym (and-false (n && z))
+regrouped true true true true false b n c z = sym (and-false (n && z))
+regrouped true true true true true false n c z = sym (and-false (n && z))
+regrouped true true true true true true true c z = by c z
+  where
+    by : (c z : Bool) → (c && z) ≡ (z && c)
+    by true true = refl
+    by true false = refl
+    by false true = refl
+    by false false = refl
+regrouped true true true true true true false c z = refl
+
+-- the rules in three groups: roster, names and zeros; counts; nothing stands twice
+module _ (t : Table) where
+  abbrev tidy : Bool
+  tidy = holds rosterAcceptable t && (holds namesAndIds t && holds freeHoldsZeros t)
+
+  abbrev within : Bool
+  within = holds sendersListed t && holds withinLimits t && holds shareWithinTotal t
+
+  abbrev once : Bool
+  once = holds shortIdsOnce t && holds longIdsOnce t && holds connectionsOnce t
+
+  rules-are : rulesHold t ≡ (tidy && (within && once))
+  unfolding rulesHold
+  rules-are =
+      regrouped (holds rosterAcceptable t) (holds sendersListed t) (holds withinLimits t) (holds shareWithinTotal t) (holds shortIdsOnce t) (holds longIdsOnce t) (holds namesAndIds t)
+      (holds connectionsOnce t) (holds freeHoldsZeros t)
+
+  untidy : tidy ≡ false → false ≡ rulesHold t
+  untidy h = sym (rw (rules-are, h))
+
+  over : tidy ≡ true → within ≡ false → false ≡ rulesHold t
+  over h k = sym (rw (rules-are, h, k))
+
+  left-over : (b : Bool) → tidy ≡ true → within ≡ true → b ≡ once → b ≡ rulesHold t
+  left-over b h k e = rw (rules-are, h, k) e
 
 roster-holds-requires : tie.Need-roster-holds-requires
 roster-holds-requires c κs = search needs
 
-senders-listed-requires : tie.Need-senders-listed-requires
-senders-listed-requires c κs = search needs
-
-shares-hold-requires : tie.Need-shares-hold-requires
-shares-hold-requires c κs = search needs
-
-calls-apart-requires : tie.Need-calls-apart-requires
-calls-apart-requires c κs = search needs
-
-standalone-once-requires : tie.Need-standalone-once-requires
-standalone-once-requires c κs = search needs
-
-names-and-ids-requires : tie.Need-names-and-ids-requires
-names-and-ids-requires c κs = search needs
-
-free-holds-zeros-requires : tie.Need-free-holds-zeros-requires
-free-holds-zeros-requires c κs = search needs
+names-and-zeros-requires : tie.Need-names-and-zeros-requires
+names-and-zeros-requires c κs = search needs
 
 returns : tie.Need-returns
-unfolding rulesHold
 returns c =
-    let t = tableOf (c .before .before .before .before .before .before .before .args .t .now) in
-    rw (c .before .before .before .before .before .before .roster-holds .ensures, c .before .before .before .before .before .senders-listed .ensures, c .before .before .before .before .shares-hold .ensures, c .before .before .before .calls-apart .ensures, c .before .before .standalone-once .ensures, c .before .names-and-ids .ensures, c .free-holds-zeros .ensures, no-two-append sameConnection (below (heldAt t) (totalOf t)) (below (standaloneAt t) 8))
-    (regrouped (holds rosterAcceptable t) (holds sendersListed t) (holds withinLimits t) (holds shareWithinTotal t) (holds shortIdsOnce t) (holds longIdsOnce t)
-    (noTwo sameConnection (below (heldAt t) (totalOf t)))
-    (noTwo sameConnection (below (standaloneAt t) 8) && not (meet sameConnection (below (heldAt t) (totalOf t)) (below (standaloneAt t) 8)))
-    (holds namesAndIds t) (holds freeHoldsZeros t))
+    let n = c .before in
+    let t = tableOf (n .before .before .args .t .now) in
+    untidy t (sym (ap₂ (λ (a b : Bool). a && b) (n .before .roster-holds .ensures) (n .names-and-zeros .ensures)) ∙ not-true _ (c .if1 .taken))
+
+shares-hold-requires : tie.Need-shares-hold-requires
+shares-hold-requires c κs =
+    let n = c .before in
+    sym (n .before .roster-holds .ensures) ∙ both _ _ (not-false _ (c .if1 .left)) .0
+
+returns-2 : tie.Need-returns-2
+returns-2 c =
+    let i = c .before .before in
+    let n = i .before in
+    let t = tableOf (n .before .before .args .t .now) in
+    over t (sym (ap₂ (λ (a b : Bool). a && b) (n .before .roster-holds .ensures) (n .names-and-zeros .ensures)) ∙ not-false _ (i .if1 .left))
+    (sym (c .before .shares-hold .ensures) ∙ not-true _ (c .if2 .taken))
+
+keys-apart-requires : tie.Need-keys-apart-requires
+keys-apart-requires c κs = search needs
+
+returns-3 : tie.Need-returns-3
+returns-3 c =
+    let j = c .before .before in
+    let i = j .before .before in
+    let n = i .before in
+    let w = n .before .before .args .t .now in
+    let t = tableOf w in
+    let tidy = both (n .before .roster-holds .result) (n .names-and-zeros .result) (not-false _ (i .if1 .left)) in
+    let zeros = both (holds namesAndIds t) (holds freeHoldsZeros t) (sym (n .names-and-zeros .ensures) ∙ tidy .1) .1 in
+    let k = keys-say w zeros (c .before .keys-apart .ensures (c .if3 .taken)) in
+    left-over t true (sym (ap₂ (λ (a b : Bool). a && b) (n .before .roster-holds .ensures) (n .names-and-zeros .ensures)) ∙ not-false _ (i .if1 .left))
+    (sym (j .before .shares-hold .ensures) ∙ not-false _ (j .if2 .left)) (sym (rw (k .0, k .1, k .2)))
+
+ids-once-requires : tie.Need-ids-once-requires
+ids-once-requires c κs =
+    let i = c .before .before .before .before in
+    let n = i .before in
+    let tidy = both (n .before .roster-holds .result) (n .names-and-zeros .result) (not-false _ (i .if1 .left)) in
+    let t = tableOf (n .before .before .args .t .now) in
+    both (holds namesAndIds t) (holds freeHoldsZeros t) (sym (n .names-and-zeros .ensures) ∙ tidy .1)
+
+connections-once-requires : tie.Need-connections-once-requires
+connections-once-requires c κs =
+    let j = c .before .before .before in
+    let i = j .before .before in
+    let n = i .before in
+    let t = tableOf (n .before .before .args .t .now) in
+    let counts = sym (j .before .shares-hold .ensures) ∙ not-false _ (j .if2 .left) in
+    (sym (n .before .roster-holds .ensures) ∙ both _ _ (not-false _ (i .if1 .left)) .0, both (holds sendersListed t) (holds withinLimits t) (both (holds sendersListed t && holds withinLimits t) (holds shareWithinTotal t) counts .0) .0)
+
+returns-4 : tie.Need-returns-4
+returns-4 c =
+    let j = c .before .before .before .before in
+    let i = j .before .before in
+    let n = i .before in
+    let t = tableOf (n .before .before .args .t .now) in
+    left-over t _ (sym (ap₂ (λ (a b : Bool). a && b) (n .before .roster-holds .ensures) (n .names-and-zeros .ensures)) ∙ not-false _ (i .if1 .left))
+    (sym (j .before .shares-hold .ensures) ∙ not-false _ (j .if2 .left))
+    (ap₂ (λ (a b : Bool). a && b) (c .before .ids-once .ensures) (c .connections-once .ensures))
 
 pub rules-hold-spec : {M : Type 1} → statement M
 rules-hold-spec =
     tie.close
     (tie.spec
     roster-holds-requires
-    senders-listed-requires
+    names-and-zeros-requires
+    returns
     shares-hold-requires
-    calls-apart-requires
-    standalone-once-requires
-    names-and-ids-requires
-    free-holds-zeros-requires
-    returns)
+    returns-2
+    keys-apart-requires
+    returns-3
+    ids-once-requires
+    connections-once-requires
+    returns-4)

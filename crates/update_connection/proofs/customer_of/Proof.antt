@@ -2,7 +2,7 @@
 use Prim.Native.Nat.{_≤_, _<_, _-_}
 use native.Mathlib.Omega.{arith}
 use mathlib.Core.Path.{_≡_, sym}
-use mathlib.Core.Bool.{_&&_}
+use mathlib.Core.Bool.{not, _&&_}
 use lib.Dec.{eqb, ltb}
 use Rattle.lists.specs.Count.{has}
 use Rattle.lists.proofs.Below.{has-element}
@@ -33,9 +33,6 @@ customer-head-requires c κs = search needs
 select-requires : tie.Need-select-requires Inv-loop μ-loop
 select-requires c κs = search needs
 
-select-requires-2 : tie.Need-select-requires-2 Inv-loop μ-loop
-select-requires-2 c κs = search needs
-
 add-k : tie.Need-add-k Inv-loop μ-loop
 add-k c = search needs
 
@@ -44,17 +41,17 @@ loop-less c = search needs
 
 loop-again : tie.Need-loop-again Inv-loop μ-loop
 loop-again c =
-    let l = c .before .before .before .before .before in
+    let l = c .before .before .before .before in
     let i = l .loop .inv in
     let k = l .loop .k in
     let a = l .before .before .args in
-    let m = c .before .before .before .customer-head .ensures .0 in
-    let here = ltb k (l .before .listed .result) && eqb (a .address) (c .before .before .before .customer-head .result .address) in
+    let m = c .before .before .customer-head .ensures .0 in
+    let here = ltb k (l .before .listed .result) && eqb (a .address) (c .before .before .customer-head .result .address) in
     let e : here ≡ has (isAt (a .address)) (listedAt (tableOf (a .t .now)) k) =
     rw (m, l .before .listed .ensures) (sym (has-element _ _ _)) in (
       omega arith,
-      sought-turn _ _ here (i .1) e (c .before .select .ensures) (c .select2 .ensures),
-      rw (c .select2 .ensures, c .before .select .ensures) (turn-below (l .loop .known) here (l .loop .at) k 8 (i .2) (omega arith)),
+      sought-turn _ _ here (i .1) e (c .select .ensures),
+      rw (c .select .ensures) (turn-below (here && not (l .loop .known)) k (l .loop .at) 8 (omega arith) (i .2)),
     )
 
 returns : tie.Need-returns Inv-loop μ-loop
@@ -73,7 +70,6 @@ customer-of-spec =
     loop-holds
     customer-head-requires
     select-requires
-    select-requires-2
     add-k
     loop-less
     loop-again

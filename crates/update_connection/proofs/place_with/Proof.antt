@@ -2,6 +2,7 @@
 use Prim.Native.Nat.{_≤_, _<_, _-_}
 use native.Mathlib.Omega.{arith}
 use mathlib.Core.Path.{_≡_, sym, _∙_}
+use mathlib.Core.Bool.{not, _&&_}
 use Rattle.lists.proofs.Below.{has-element}
 use Rattle.table.specs.Lists.{heldPlace}
 use Rattle.table.specs.Rules.{isLsp}
@@ -28,9 +29,6 @@ holds-at-requires c κs = search needs
 select-requires : tie.Need-select-requires Inv-loop μ-loop
 select-requires c κs = search needs
 
-select-requires-2 : tie.Need-select-requires-2 Inv-loop μ-loop
-select-requires-2 c κs = search needs
-
 add-j : tie.Need-add-j Inv-loop μ-loop
 add-j c = search needs
 
@@ -39,11 +37,11 @@ loop-less c = search needs
 
 loop-again : tie.Need-loop-again Inv-loop μ-loop
 loop-again c =
-    let l = c .before .before .before .before in
+    let l = c .before .before .before in
     let i = l .loop .inv in (
       omega arith,
-      sought-turn _ _ _ (i .1) (c .before .before .holds-at .ensures ∙ sym (has-element _ _ _)) (c .before .select .ensures) (c .select2 .ensures),
-      rw (c .select2 .ensures, c .before .select .ensures) (turn-below (l .loop .held) (c .before .before .holds-at .result) (l .loop .at) (l .loop .j) 4 (i .2) (omega arith)),
+      sought-turn _ _ _ (i .1) (c .before .holds-at .ensures ∙ sym (has-element _ _ _)) (c .select .ensures),
+      rw (c .select .ensures) (turn-below (c .before .holds-at .result && not (l .loop .held)) (l .loop .j) (l .loop .at) 4 (omega arith) (i .2)),
     )
 
 returns : tie.Need-returns Inv-loop μ-loop
@@ -61,7 +59,6 @@ place-with-spec =
     loop-holds
     holds-at-requires
     select-requires
-    select-requires-2
     add-j
     loop-less
     loop-again

@@ -1,58 +1,92 @@
--- `choosing::is_best` meets its contract: after `j` turns none of the first `j` records is better.
-use Prim.Native.Nat.{_≤_, _-_}
+-- `choosing::is_best` meets its contract: the walk has come to place `e - 1`, and has met no better record.
+use Prim.Native.Nat.{_-_}
 use native.Mathlib.Omega.{arith}
-use mathlib.Core.Bool.{not}
-use mathlib.Core.Path.{_≡_, sym, ap}
+use mathlib.Core.Path.{_≡_, sym, _∙_}
 use lib.ListN.{getD}
-use lib.Dec.{eqb}
-use Rattle.lists.specs.Below.{everyBelow}
-use Rattle.lists.proofs.Below.{every-none, every-turn}
-use Rattle.checkpoint_choice.specs.Ranked.{isBetter, isBest}
-use Rattle.checkpoint_choice.proofs.Tests.{first-fails, first-passes}
+use Rattle.checkpoint_choice.proofs.LongWalk.{head-within, Walked, walk-starts, walk-goes-back, walk-goes-on, none-better, one-better, not-sound}
 use borrow.Author.Needs.{needs}
 use Rattle.checkpoint_choice.proofs.choosing.is_best.Statement.{statement}
 use Rattle.checkpoint_choice.proofs.choosing.is_best.Tie as tie
 
 abbrev Inv-loop : tie.InvT-loop
-Inv-loop s sound named calls i alone best₀ j₀ best j = (j ≤ calls) × (best ≡ everyBelow (λ j. not (isBetter s sound named i j)) j)
+Inv-loop s heads links sound named calls i e₀ e = (getD sound i 0 ≡ 1) × Walked s sound named calls i e
 
 abbrev μ-loop : tie.MeasureT-loop
-μ-loop s sound named calls i alone best₀ j₀ best j = calls - j
+μ-loop s heads links sound named calls i e₀ e = e
 
-element-copy-out-alone : tie.Need-element-copy-out-alone Inv-loop μ-loop
-element-copy-out-alone c = search needs
+element-copy-out-if1 : tie.Need-element-copy-out-if1 Inv-loop μ-loop
+element-copy-out-if1 c = search needs
 
 returns : tie.Need-returns Inv-loop μ-loop
-unfolding isBest
 returns c =
     let a = c .before .before .before .args in
-    first-fails (eqb (getD (a .sound .now) (a .i) 0) 1) (everyBelow (λ j. not (isBetter (a .s .now) (a .sound .now) (a .named .now) (a .i) j)) (a .calls)) (c .if1 .taken)
+    not-sound (a .s .now) (a .sound .now) (a .named .now) (a .calls) (a .i) (c .if1 .taken)
+
+long-chain-requires : tie.Need-long-chain-requires Inv-loop μ-loop
+long-chain-requires c κs = search needs
+
+mul-e : tie.Need-mul-e Inv-loop μ-loop
+mul-e c = search needs
+
+element-copy-out-e : tie.Need-element-copy-out-e Inv-loop μ-loop
+element-copy-out-e c = search needs
+
+cast-e : tie.Need-cast-e Inv-loop μ-loop
+cast-e c =
+    let z = c .before .before .before .before .before in
+    omega (arith, head-within (z .pre .3) _ (c .before .long-chain .ensures .1))
 
 loop-holds : tie.Need-loop-holds Inv-loop μ-loop
-loop-holds c = (omega arith, sym (every-none _))
+loop-holds c =
+    let z = c .before .before .before .before .before in
+    let m = c .before .long-chain .ensures in
+    (c .before .before .if1 .left, walk-starts (z .pre .3) _ (m .0) (m .1))
+
+sub-is-better : tie.Need-sub-is-better Inv-loop μ-loop
+sub-is-better c = search needs
 
 is-better-requires : tie.Need-is-better-requires Inv-loop μ-loop
 is-better-requires c κs = search needs
 
-add-j : tie.Need-add-j Inv-loop μ-loop
-add-j c = search needs
+returns-2 : tie.Need-returns-2 Inv-loop μ-loop
+returns-2 c =
+    let l = c .before .before .before in
+    let a = l .before .before .before .before .before .before .args in
+    one-better (a .s .now) (a .sound .now) (a .named .now) (a .calls) (a .i) (a .calls - l .loop .e) (omega arith) (sym (c .before .is-better .ensures) ∙ c .if2 .taken)
+
+sub-e : tie.Need-sub-e Inv-loop μ-loop
+sub-e c = search needs
+
+mul-e-2 : tie.Need-mul-e-2 Inv-loop μ-loop
+mul-e-2 c = search needs
+
+element-copy-out-e-2 : tie.Need-element-copy-out-e-2 Inv-loop μ-loop
+element-copy-out-e-2 c = search needs
+
+cast-e-2 : tie.Need-cast-e-2 Inv-loop μ-loop
+cast-e-2 c =
+    let l = c .before .before .before .before in
+    let z = l .before .before .before .before .before .before in
+    omega (arith, walk-goes-back (z .pre .3) (l .loop .inv .1) (omega arith))
 
 loop-less : tie.Need-loop-less Inv-loop μ-loop
-loop-less c = search needs
+loop-less c =
+    let l = c .before .before .before .before in
+    let z = l .before .before .before .before .before .before in
+    walk-goes-back (z .pre .3) (l .loop .inv .1) (omega arith)
 
 loop-again : tie.Need-loop-again Inv-loop μ-loop
 loop-again c =
-    let l = c .before .before in
-    (omega arith, every-turn _ _ _ _ (l .loop .inv .1) (ap not (c .is-better .ensures)))
+    let l = c .before .before .before .before in
+    let z = l .before .before .before .before .before .before in
+    let worse = sym (c .before .before .is-better .ensures) ∙ c .before .if2 .left in
+    (l .loop .inv .0, walk-goes-on (z .pre .3) (l .loop .inv .1) (omega arith) worse)
 
-returns-2 : tie.Need-returns-2 Inv-loop μ-loop
-unfolding isBest
-returns-2 c =
-    let z = c .before .before in
-    let a = z .before .before .before .args in
-    let e : c .before .loop .j ≡ a .calls = omega arith in
-    rw (c .before .loop .inv .1, e)
-    (first-passes (eqb (getD (a .sound .now) (a .i) 0) 1) (everyBelow (λ j. not (isBetter (a .s .now) (a .sound .now) (a .named .now) (a .i) j)) (a .calls)) (z .if1 .left))
+returns-3 : tie.Need-returns-3 Inv-loop μ-loop
+returns-3 c =
+    let l = c .before in
+    let a = l .before .before .before .before .before .before .args in
+    none-better (a .s .now) (a .sound .now) (a .named .now) (a .calls) (a .i) (l .loop .inv .0) (rw (c .loop-test .left) at (l .loop .inv .1))
 
 pub is-best-spec : {M : Type 1} → statement M
 is-best-spec =
@@ -60,11 +94,20 @@ is-best-spec =
     (tie.spec
     Inv-loop
     μ-loop
-    element-copy-out-alone
+    element-copy-out-if1
     returns
+    long-chain-requires
+    mul-e
+    element-copy-out-e
+    cast-e
     loop-holds
+    sub-is-better
     is-better-requires
-    add-j
+    returns-2
+    sub-e
+    mul-e-2
+    element-copy-out-e-2
+    cast-e-2
     loop-less
     loop-again
-    returns-2)
+    returns-3)

@@ -6,7 +6,7 @@ use lib.ListN.{drop}
 use Rattle.table.specs.Lists.{idsOf}
 use Rattle.table.specs.Rules.{sameBytes}
 use Rattle.spec_checkpoint.specs.Layout.{callRecord}
-use Rattle.rule_uniqueness.proofs.Names.{sizes-differ, rest-ends, rest-differs, rest-goes-on}
+use Rattle.checkpoint_choice.proofs.Bytewise.{sizes-differ, rest-ends, rest-differs, rest-goes-on}
 use Rattle.checkpoint_choice.proofs.Names.{name-long, bytes-at}
 use borrow.Author.Needs.{needs}
 use Rattle.checkpoint_choice.proofs.choosing.same_name.Statement.{statement}

@@ -1,8 +1,8 @@
--- `choosing::sound_flags` meets its contract: after `i` turns the first `i` places are filled, and the table is as it was.
+-- `choosing::sound_flags` meets its contract: after `i` turns the first `i` places are filled.
 use Prim.Native.Nat.{_≤_, _-_}
 use native.Mathlib.Omega.{arith}
 use native.Mathlib.Nat.{not-suc-le-zero}
-use mathlib.Core.Path.{_≡_, refl, ap, _∙_}
+use mathlib.Core.Path.{_≡_, ap, _∙_}
 use lib.ListN.{length}
 use Rattle.lists.specs.Count.{bit}
 use Rattle.table.specs.Words.{tableOf}
@@ -15,13 +15,13 @@ use Rattle.checkpoint_choice.proofs.choosing.sound_flags.Statement.{sta
 use Rattle.checkpoint_choice.proofs.choosing.sound_flags.Tie as tie
 
 abbrev Inv-loop : tie.InvT-loop
-Inv-loop t₀ s calls flags₀ i₀ t flags i = (i ≤ calls) × (length flags ≡ 4096) × Filled (λ j. bit (soundAlone (tableOf t₀) (callRecord s j))) flags i × (tableOf t ≡ tableOf t₀)
+Inv-loop t s calls flags₀ i₀ flags i = (i ≤ calls) × (length flags ≡ 4096) × Filled (λ j. bit (soundAlone (tableOf t) (callRecord s j))) flags i
 
 abbrev μ-loop : tie.MeasureT-loop
-μ-loop t₀ s calls flags₀ i₀ t flags i = calls - i
+μ-loop t s calls flags₀ i₀ flags i = calls - i
 
 loop-holds : tie.Need-loop-holds Inv-loop μ-loop
-loop-holds c = (omega arith, search needs, λ j b. absurd (not-suc-le-zero b), refl)
+loop-holds c = (omega arith, search needs, λ j b. absurd (not-suc-le-zero b))
 
 sound-alone-requires : tie.Need-sound-alone-requires Inv-loop μ-loop
 sound-alone-requires c κs = search needs
@@ -44,15 +44,13 @@ loop-less c = search needs
 loop-again : tie.Need-loop-again Inv-loop μ-loop
 loop-again c =
     let b = c .before in
-    let l = b .before .before .before in
-    let s = l .before .before .args .s .now in
-    let sound = b .sound-alone .ensures .0 ∙ ap (λ t. soundAlone t (callRecord s (l .loop .i))) (l .loop .inv .3) in
-    (omega arith, search needs, filled-turn _ (l .loop .flags) (l .loop .i) _ (omega arith) (l .loop .inv .2) (c .one-if .ensures .0 ∙ ap bit sound), b .sound-alone .ensures .1 ∙ l .loop .inv .3)
+    let l = b .before .before in
+    (omega arith, search needs, filled-turn _ (l .loop .flags) (l .loop .i) _ (omega arith) (l .loop .inv .2) (c .one-if .ensures .0 ∙ ap bit (b .sound-alone .ensures)))
 
 returns : tie.Need-returns Inv-loop μ-loop
 returns c =
     let e : c .before .loop .i ≡ c .before .before .before .args .calls = omega arith in
-    (rw e at (c .before .loop .inv .2), c .before .loop .inv .3)
+    rw e at (c .before .loop .inv .2)
 
 pub sound-flags-spec : {M : Type 1} → statement M
 sound-flags-spec =

@@ -1,5 +1,4 @@
 -- `placing::call_fits` meets its contract: a taken slot does not fit, any other as the rules say.
-use mathlib.Core.Path.{refl}
 use Rattle.table.specs.Words.{tableOf}
 use Rattle.spec_checkpoint.specs.Layout.{callRecord}
 use Rattle.checkpoint_salvage.proofs.Placed.{slot-used, slot-free}
@@ -16,18 +15,21 @@ is-used-requires c κs = search needs
 returns : tie.Need-returns
 returns c =
     let o = c .before .before in
-    let z = o .before .before .before in
-    (slot-used (tableOf (z .args .t .now)) (callRecord (z .args .s .now) (z .args .i)) _ _ _ (z .pre .1) (o .occupied .ensures) (c .before .is-used .ensures) (c .if1 .taken), refl)
+    let z = o .before .before in
+    slot-used (tableOf (z .args .t .now)) (callRecord (z .args .s .now) (z .args .i)) _ _ _ (z .pre .2) (o .occupied .ensures) (c .before .is-used .ensures) (c .if1 .taken)
 
-holds-with-requires : tie.Need-holds-with-requires
-holds-with-requires c κs = search needs
+stands-requires : tie.Need-stands-requires
+stands-requires c κs =
+    let o = c .before .before in
+    let z = o .before .before in
+    let here = z .pre .2 in
+    (z .pre .0, z .pre .1, rw here at (z .pre .3), rw (c .before .is-used .ensures, o .occupied .ensures, here) at (c .if1 .left))
 
 returns-2 : tie.Need-returns-2
 returns-2 c =
-    let o = c .before .before .before .before in
-    let z = o .before .before .before in
-    (slot-free (tableOf (z .args .t .now)) (callRecord (z .args .s .now) (z .args .i)) _ _ _ (z .pre .1) (o .occupied .ensures) (c .before .before .before .is-used .ensures) _ (c .before .before .if1 .left) (c .holds-with .ensures .0), c .holds-with .ensures .1)
+    let o = c .before .before .before in
+    let z = o .before .before in
+    slot-free (tableOf (z .args .t .now)) (callRecord (z .args .s .now) (z .args .i)) _ _ _ (z .pre .2) (o .occupied .ensures) (c .before .before .is-used .ensures) _ (c .before .if1 .left) (c .stands .ensures)
 
 pub call-fits-spec : {M : Type 1} → statement M
-call-fits-spec =
-    tie.close (tie.spec occupied-requires is-used-requires returns holds-with-requires returns-2)
+call-fits-spec = tie.close (tie.spec occupied-requires is-used-requires returns stands-requires returns-2)

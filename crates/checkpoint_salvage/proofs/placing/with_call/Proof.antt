@@ -17,27 +17,26 @@ call-fits-requires : tie.Need-call-fits-requires
 call-fits-requires c κs =
     let r = c .before in
     let z = r .before .before .before in
-    (z .pre .0, r .record-slot .ensures .0, rw (r .record-slot .ensures .0) (z .pre .1 (not-false _ (r .before .if1 .left))))
+    (z .pre .0, z .pre .1, r .record-slot .ensures .0, rw (r .record-slot .ensures .0) (z .pre .2 (not-false _ (r .before .if1 .left))))
 
 place-requires : tie.Need-place-requires
 place-requires c κs =
     let r = c .before .before .before .before in
     let z = r .before .before .before in
-    (z .pre .0, r .record-slot .ensures .0, rw (r .record-slot .ensures .0) (z .pre .1 (not-false _ (r .before .if1 .left))))
+    (z .pre .0, r .record-slot .ensures .0, rw (r .record-slot .ensures .0) (z .pre .2 (not-false _ (r .before .if1 .left))))
 
 returns-2 : tie.Need-returns-2
 returns-2 c =
     let f = c .before .before .before in
     let i = f .before .before .before in
     let a = i .before .before .args in
-    call-placed (tableOf (a .t .now)) _ (callRecord (a .s .now) (a .i)) (a .best) _ _ (not-false (i .before .before .args .best) (i .if1 .left)) (f .call-fits .ensures .0) (c .before .before .if2 .taken) (f .call-fits .ensures .1) (c .place .ensures)
+    call-placed (tableOf (a .t .now)) (callRecord (a .s .now) (a .i)) (a .best) _ _ (not-false (a .best) (i .if1 .left)) (f .call-fits .ensures) (c .before .before .if2 .taken) (c .place .ensures)
 
 returns-3 : tie.Need-returns-3
 returns-3 c =
     let f = c .before in
-    let i = f .before .before .before in
-    let a = i .before .before .args in
-    call-dropped (tableOf (a .t .now)) _ (callRecord (a .s .now) (a .i)) (a .best) _ (f .call-fits .ensures .0) (c .if2 .left) (f .call-fits .ensures .1)
+    let a = f .before .before .before .before .before .args in
+    call-dropped (tableOf (a .t .now)) (callRecord (a .s .now) (a .i)) (a .best) _ (f .call-fits .ensures) (c .if2 .left)
 
 pub with-call-spec : {M : Type 1} → statement M
 with-call-spec =

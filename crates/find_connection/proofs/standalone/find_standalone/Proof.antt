@@ -36,9 +36,6 @@ holds-requires c κs = search needs
 select-requires : tie.Need-select-requires Inv-loop μ-loop
 select-requires c κs = search needs
 
-select-requires-2 : tie.Need-select-requires-2 Inv-loop μ-loop
-select-requires-2 c κs = search needs
-
 add-k : tie.Need-add-k Inv-loop μ-loop
 add-k c = search needs
 
@@ -47,14 +44,14 @@ loop-less c = search needs
 
 loop-again : tie.Need-loop-again Inv-loop μ-loop
 loop-again c =
-    let h = c .before .before in
+    let h = c .before in
     let l = h .before .before .before in
     let t = tableOf (l .before .before .args .t .now) in
     let x = lspOf (l .before .before .args .x) in
     let k = l .loop .k in
     let four = customerFour (customerAt t k) in
     let e = rw (l .before .listed .ensures, alike-held _ four (h .before .customer-four .ensures .0)) at (h .holds .ensures) in
-    (omega arith, sought-turn _ _ _ (l .loop .inv .1) (e ∙ sym (has-list-if (isLsp x) (ltb k (t .listed)) (heldIn four))) (c .before .select .ensures) (c .select2 .ensures))
+    (omega arith, sought-turn _ _ _ (l .loop .inv .1) (e ∙ sym (has-list-if (isLsp x) (ltb k (t .listed)) (heldIn four))) (c .select .ensures))
 
 returns : tie.Need-returns Inv-loop μ-loop
 unfolding standaloneFoundOf
@@ -75,7 +72,6 @@ find-standalone-spec =
     customer-four-requires
     holds-requires
     select-requires
-    select-requires-2
     add-k
     loop-less
     loop-again

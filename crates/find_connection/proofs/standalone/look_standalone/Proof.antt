@@ -49,7 +49,7 @@ loop-again c =
     let k = l .loop .k in
     let four = customerFour (customerAt t k) in
     let e = rw (l .before .listed .ensures, alike-held _ four (m .before .customer-four .ensures .0)) at (m .match-four .ensures) in
-    (omega arith, omega (arith, e .3), looked-turn _ _ (ltb k (t .listed)) (heldIn four) refl (l .loop .inv .2) e)
+    (omega arith, omega (arith, e .3), looked-turn _ _ (ltb k (t .listed)) (heldIn four) refl (l .loop .inv .2) (e .0) (e .1) (e .2))
 
 returns : tie.Need-returns Inv-loop μ-loop
 unfolding standaloneLookOf

@@ -8,22 +8,26 @@ use Rattle.table.specs.Word.{isUsed}
 use Rattle.table.specs.Lists.{callAt, callFour, heldIn, heldAt}
 use Rattle.table.specs.Rules.{isLsp}
 use Rattle.table.specs.Words.{tableOf}
+use Rattle.table.proofs.Slots.{held-free}
 use Rattle.table_words.proofs.Alike.{alike-held}
 use Rattle.spec_calls.specs.PathRules.{lspOf}
 use Rattle.find_connection.specs.Looks.{underFoundOf}
-use Rattle.find_connection.proofs.Rows.{Sought, sought-none, sought-turn}
+use Rattle.find_connection.proofs.Rows.{Sought, sought-none, sought-turn, sought-rest}
 use borrow.Author.Needs.{needs}
 use Rattle.find_connection.proofs.under.find_under.Statement.{statement}
 use Rattle.find_connection.proofs.under.find_under.Tie as tie
 
 abbrev Inv-loop : tie.InvT-loop
-Inv-loop t x word held₀ at₀ i₀ held at i = (i ≤ total) × Sought (heldAt (tableOf t)) (isLsp (lspOf x)) i held at
+Inv-loop t x word n held₀ at₀ i₀ held at i = (i ≤ n) × Sought (heldAt (tableOf t)) (isLsp (lspOf x)) i held at
 
 abbrev μ-loop : tie.MeasureT-loop
-μ-loop t x word held₀ at₀ i₀ held at i = total - i
+μ-loop t x word n held₀ at₀ i₀ held at i = n - i
 
 occupied-requires : tie.Need-occupied-requires Inv-loop μ-loop
 occupied-requires c κs = search needs
+
+used-below-requires : tie.Need-used-below-requires Inv-loop μ-loop
+used-below-requires c κs = search needs
 
 loop-holds : tie.Need-loop-holds Inv-loop μ-loop
 loop-holds c = (omega arith, sought-none _ _)
@@ -40,9 +44,6 @@ holds-requires c κs = search needs
 select-requires : tie.Need-select-requires Inv-loop μ-loop
 select-requires c κs = search needs
 
-select-requires-2 : tie.Need-select-requires-2 Inv-loop μ-loop
-select-requires-2 c κs = search needs
-
 add-i : tie.Need-add-i Inv-loop μ-loop
 add-i c = search needs
 
@@ -51,22 +52,27 @@ loop-less c = search needs
 
 loop-again : tie.Need-loop-again Inv-loop μ-loop
 loop-again c =
-    let h = c .before .before in
+    let h = c .before in
     let l = h .before .before .before .before in
-    let t = tableOf (l .before .before .args .t .now) in
-    let x = lspOf (l .before .before .args .x) in
+    let o = l .before .before in
+    let t = tableOf (o .before .args .t .now) in
+    let x = lspOf (o .before .args .x) in
     let i = l .loop .i in
-    let used = rw (l .before .occupied .ensures) at (h .before .before .is-used .ensures) in
+    let used = rw (o .occupied .ensures) at (h .before .before .is-used .ensures) in
     let four = callFour (callAt t i) in
     let e = rw (used, alike-held _ four (h .before .call-four .ensures .0)) at (h .holds .ensures) in
-    (omega arith, sought-turn _ _ _ (l .loop .inv .1) (e ∙ sym (has-list-if (isLsp x) (isUsed (t .occupied) i) (heldIn four))) (c .before .select .ensures) (c .select2 .ensures))
+    (omega arith, sought-turn _ _ _ (l .loop .inv .1) (e ∙ sym (has-list-if (isLsp x) (isUsed (t .occupied) i) (heldIn four))) (c .select .ensures))
 
 returns : tie.Need-returns Inv-loop μ-loop
 unfolding underFoundOf
 returns c =
-    let l = c .before in
-    let e : l .loop .i ≡ total = omega arith in
-    let k = rw e at (l .loop .inv .1) in
+    let u = c .before .before in
+    let o = u .before in
+    let t = tableOf (o .before .args .t .now) in
+    let n = u .used-below in
+    let e : c .before .loop .i ≡ n .result = omega arith in
+    let free = held-free t _ (rw (o .occupied .ensures) at (n .ensures .1)) in
+    let k = sought-rest _ _ total (n .ensures .0) free (rw e at (c .before .loop .inv .1)) in
     rw (k .has, k .place)
 
 pub find-under-spec : {M : Type 1} → statement M
@@ -76,12 +82,12 @@ find-under-spec =
     Inv-loop
     μ-loop
     occupied-requires
+    used-below-requires
     loop-holds
     is-used-requires
     call-four-requires
     holds-requires
     select-requires
-    select-requires-2
     add-i
     loop-less
     loop-again

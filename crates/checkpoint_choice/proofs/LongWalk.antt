@@ -1,0 +1,112 @@
+-- Call records in chains: one more record (`chained-turn`), the walk through a record's chain (`walk-..`), which meets
+-- whoever is better, and what that says of the record.
+-- Assumes nothing.
+use Prim.Native.Nat.{ℕ, _+_, _-_, _<_, _≤_}
+use native.Mathlib.Nat.{eq-or-lt-of-le}
+use native.Mathlib.Omega.{arith}
+use native.Mathlib.Numerals.{add-one}
+use mathlib.Core.Path.{_≡_, refl, sym, ap, _∙_}
+use mathlib.Core.Logic.{⊎-elim}
+use mathlib.Core.List.{List}
+use mathlib.Core.Bool.{Bool, true, false, not, true≢false}
+use lib.Dec.{eqb, ltb}
+use lib.ListN.{length, getD, set}
+use borrow.Author.Tests.{eq-eqb, ne-eqb, ltb-true, ltb-false}
+use Rattle.lists.specs.Chain.{lastBelow, inChain, InChains}
+use Rattle.lists.proofs.Below.{every-within, every-at}
+use Rattle.lists.proofs.Tests.{both}
+use Rattle.lists.proofs.Chain.{last-within, last-itself, last-is-last, chain-noted, back-less, back-last, back-none}
+use Rattle.table.specs.Lists.{idsOf}
+use Rattle.spec_checkpoint.specs.Layout.{callRecord}
+use Rattle.checkpoint_choice.specs.Ranked.{isAhead, isBetter, isBest}
+use Rattle.checkpoint_choice.specs.LongChain.{chainOf, chainAt, LongChains}
+use Rattle.checkpoint_choice.proofs.Mixed.{one-chain}
+
+pub chained-turn : (s heads links : List ℕ) (n k m : ℕ) → InChains (λ _. true) (chainAt s n) heads links k → m ≡ chainAt s n k → m < length heads
+    → k < length links → InChains (λ _. true) (chainAt s n) (set heads m (k + 1)) (set links k (getD heads m 0)) (k + 1)
+chained-turn s heads links n k m c e inside room = rw (add-one, e) (chain-noted (λ _. true) (chainAt s n) c refl (rw e at inside) room)
+
+-- ---- the walk
+
+-- the place is in record i's chain
+abbrev inOwn : List ℕ → ℕ → ℕ → ℕ → Bool
+inOwn s n i k = inChain (λ _. true) (chainAt s n) (chainOf s i) k
+
+-- it has come to place e - 1 of record i's chain, and has met no better record
+pub record Walked (s sound named : List ℕ) (n i e : ℕ) : Type 0 where
+  pub within : e ≤ n
+  pub last : e ≡ lastBelow (inOwn s n i) e
+  pub none : (k : ℕ) → e ≤ k → k < n → isBetter s sound named i (n - 1 - k) ≡ true → ⊥
+
+-- whoever is better is in the chain
+better-in : (s sound named : List ℕ) (n i k : ℕ) → isBetter s sound named i (n - 1 - k) ≡ true → inOwn s n i k ≡ true
+unfolding isBetter
+better-in s sound named n i k h =
+    eq-eqb (chainAt s n k) (chainOf s i)
+    (one-chain (idsOf (callRecord s (n - 1 - k) .call)) (idsOf (callRecord s i .call)) (both (isAhead sound named i (n - 1 - k)) _ h .1))
+
+module _ {s heads links : List ℕ} {n : ℕ} (c : LongChains s heads links n) where
+  head-is : (m : ℕ) → m < 2048 → getD heads m 0 ≡ lastBelow (inChain (λ _. true) (chainAt s n) m) n
+  head-is m h = c .chains .head m (rw (c .room) h)
+
+  pub head-within : (m : ℕ) → m < 2048 → getD heads m 0 ≤ n
+  head-within m h = rw (head-is m h) (last-within (inChain (λ _. true) (chainAt s n) m) n)
+
+  module _ {sound named : List ℕ} {i : ℕ} where
+    pub walk-starts : (m : ℕ) → m ≡ chainOf s i → m < 2048 → Walked s sound named n i (getD heads m 0)
+    walk-starts m e h = rw (head-is m h, e) (record {
+      within = last-within (inOwn s n i) n;
+      last = last-itself (inOwn s n i) n;
+      none = λ k h l b. last-is-last (inOwn s n i) n k h l (better-in s sound named n i k b);
+    })
+
+    module _ {e : ℕ} (w : Walked s sound named n i e) (some : 0 < e) where
+      pub walk-goes-back : getD links (e - 1) 0 < e
+      walk-goes-back = back-less (λ _. true) (chainAt s n) heads links n (chainOf s i) e (c .chains) some (w .within) (w .last)
+
+      pub walk-goes-on : isBetter s sound named i (n - e) ≡ false → Walked s sound named n i (getD links (e - 1) 0)
+      walk-goes-on worse = record {
+        within = omega (arith, walk-goes-back, w .within);
+        last = back-last (λ _. true) (chainAt s n) heads links n (chainOf s i) e (c .chains) some (w .within) (w .last);
+        none = none;
+      }
+        where
+          none : (k : ℕ) → getD links (e - 1) 0 ≤ k → k < n → isBetter s sound named i (n - 1 - k) ≡ true → ⊥
+          none k h l b = by (ltb k e) refl
+            where
+              here : k ≡ e - 1 → ⊥
+              here q = let r : n - 1 - k ≡ n - e = omega arith in true≢false (sym (rw r at b) ∙ worse)
+
+              before : k < e - 1 → ⊥
+              before q =
+                  back-none (λ _. true) (chainAt s n) heads links n (chainOf s i) e (c .chains) some (w .within) (w .last) k h q
+                  (better-in s sound named n i k b)
+
+              by : (d : Bool) → ltb k e ≡ d → ⊥
+              by true q = ⊎-elim here before (eq-or-lt-of-le (omega (arith, ltb-true k e q)))
+              by false q = w .none k (ltb-false k e q) l b
+
+-- ---- what it finds
+
+module _ (s sound named : List ℕ) (n i : ℕ) where
+  pub none-better : getD sound i 0 ≡ 1 → Walked s sound named n i 0 → true ≡ isBest s sound named n i
+  unfolding isBest
+  none-better alone w = sym (rw (eq-eqb (getD sound i 0) 1 alone) (every-within _ n (λ j l. worse j l (isBetter s sound named i j) refl)))
+    where
+      worse : (j : ℕ) → j < n → (d : Bool) → isBetter s sound named i j ≡ d → not d ≡ true
+      worse j l true q =
+          let r : j ≡ n - 1 - (n - 1 - j) = omega arith in
+          absurd (w .none (n - 1 - j) (omega arith) (omega arith) (rw r at q))
+      worse j l false q = refl
+
+  pub one-better : (j : ℕ) → j < n → isBetter s sound named i j ≡ true → false ≡ isBest s sound named n i
+  unfolding isBest
+  one-better j l b = by (isBest s sound named n i) refl
+    where
+      by : (d : Bool) → isBest s sound named n i ≡ d → false ≡ d
+      by true q = absurd (true≢false (sym (every-at _ n (both (eqb (getD sound i 0) 1) _ q .1) j l) ∙ ap not b))
+      by false q = refl
+
+  pub not-sound : (getD sound i 0 ≡ 1 → ⊥) → false ≡ isBest s sound named n i
+  unfolding isBest
+  not-sound d = rw (ne-eqb (getD sound i 0) 1 d)

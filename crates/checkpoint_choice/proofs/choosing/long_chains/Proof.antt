@@ -1,0 +1,105 @@
+-- `choosing::long_chains` meets its contract: after `k` turns the last `k` records stand in their chains.
+use Prim.Native.Nat.{ℕ, _≤_, _-_}
+use native.Mathlib.Omega.{arith}
+use mathlib.Core.Path.{_≡_, ap, _∙_}
+use mathlib.Core.Bool.{true}
+use lib.ListN.{length, getD, length-replicate}
+use Rattle.lists.specs.Chain.{InChains}
+use Rattle.lists.proofs.Chain.{chain-start}
+use Rattle.table_words.proofs.NameBytes.{zero-get}
+use Rattle.checkpoint_choice.specs.LongChain.{chainAt}
+use Rattle.checkpoint_choice.proofs.LongWalk.{chained-turn}
+use borrow.Author.Needs.{needs}
+use Rattle.checkpoint_choice.proofs.choosing.long_chains.Statement.{statement}
+use Rattle.checkpoint_choice.proofs.choosing.long_chains.Tie as tie
+
+abbrev Inv-loop : tie.InvT-loop
+Inv-loop s heads₀ links₀ calls k₀ heads links k = (k ≤ calls) × (length heads ≡ 2048) × (length links ≡ 4096) × InChains (λ _. true) (chainAt s calls) heads links k
+
+abbrev μ-loop : tie.MeasureT-loop
+μ-loop s heads₀ links₀ calls k₀ heads links k = calls - k
+
+sized-requires : tie.Need-sized-requires Inv-loop μ-loop
+sized-requires c κs = search needs
+
+loop-holds : tie.Need-loop-holds Inv-loop μ-loop
+loop-holds c =
+    let z = c .before .before .before in
+    let zeros = z .pre .2 in
+    (omega arith, ap length zeros ∙ length-replicate {A = ℕ} 2048 0, c .sized .ensures, chain-start _ _ _ _ (λ m. ap (λ l. getD l m 0) zeros ∙ zero-get 2048 m))
+
+sub-long-chain : tie.Need-sub-long-chain Inv-loop μ-loop
+sub-long-chain c = search needs
+
+sub-long-chain-2 : tie.Need-sub-long-chain-2 Inv-loop μ-loop
+sub-long-chain-2 c = search needs
+
+long-chain-requires : tie.Need-long-chain-requires Inv-loop μ-loop
+long-chain-requires c κs = search needs
+
+mul-links : tie.Need-mul-links Inv-loop μ-loop
+mul-links c = search needs
+
+element-copy-out-links : tie.Need-element-copy-out-links Inv-loop μ-loop
+element-copy-out-links c = search needs
+
+mul-links-2 : tie.Need-mul-links-2 Inv-loop μ-loop
+mul-links-2 c = search needs
+
+element-write-links : tie.Need-element-write-links Inv-loop μ-loop
+element-write-links c = search needs
+
+add-heads : tie.Need-add-heads Inv-loop μ-loop
+add-heads c = search needs
+
+cast-heads : tie.Need-cast-heads Inv-loop μ-loop
+cast-heads c = search needs
+
+mul-heads : tie.Need-mul-heads Inv-loop μ-loop
+mul-heads c = search needs
+
+element-write-heads : tie.Need-element-write-heads Inv-loop μ-loop
+element-write-heads c = search needs
+
+add-k : tie.Need-add-k Inv-loop μ-loop
+add-k c = search needs
+
+loop-less : tie.Need-loop-less Inv-loop μ-loop
+loop-less c = search needs
+
+loop-again : tie.Need-loop-again Inv-loop μ-loop
+loop-again c =
+    let l = c .before .before .before in
+    let a = l .before .before .before .before .args in
+    let i = l .loop .inv in
+    let m = c .before .long-chain .ensures in
+    (omega arith, search needs, search needs, chained-turn (a .s .now) (l .loop .heads) (l .loop .links) (a .calls) (l .loop .k) _ (i .3) (m .0) (omega arith) (omega arith))
+
+returns : tie.Need-returns Inv-loop μ-loop
+returns c =
+    let e : c .before .loop .k ≡ c .before .before .before .before .before .args .calls = omega arith in
+    record { room = c .before .loop .inv .1; chains = rw e at (c .before .loop .inv .3) }
+
+pub long-chains-spec : {M : Type 1} → statement M
+long-chains-spec =
+    tie.close
+    (tie.spec
+    Inv-loop
+    μ-loop
+    sized-requires
+    loop-holds
+    sub-long-chain
+    sub-long-chain-2
+    long-chain-requires
+    mul-links
+    element-copy-out-links
+    mul-links-2
+    element-write-links
+    add-heads
+    cast-heads
+    mul-heads
+    element-write-heads
+    add-k
+    loop-less
+    loop-again
+    returns)

@@ -1,3 +1,0 @@
-pub mod Mix
-pub mod Noted
-pub mod Shared

@@ -1,0 +1,5 @@
+pub mod Links
+pub mod Products
+pub mod Places
+pub mod Passes
+pub mod SameKey
