@@ -1,6 +1,6 @@
 /* Chaffmoor: the call side of a light-path node. Link with target/staticlib/libchaffmoor.a (rt staticlib chaffmoor).
  *
- * Every byte string handed in gets an answer by number (docs/ANSWERS.md). The table is plain data of fixed size, 2,238
+ * Every byte string handed in gets an answer by number (docs/ANSWERS.md). The table is plain data of fixed size, 6,597
  * words of 32 bits. The caller owns it, lends it by pointer with each message and keeps it between messages; the node
  * changes it in place. Nothing is allocated, and nothing is kept inside the library.
  *
@@ -16,8 +16,8 @@
  *
  * Stack, the called function's own frames and all below them, as bench/run measures it (docs/MEASURED.md), rounded up:
  *   chaffmoor_read_roster           512 bytes
- *   chaffmoor_handle             12,288 bytes
- *   chaffmoor_write_checkpoint   12,288 bytes
+ *   chaffmoor_handle             20,480 bytes
+ *   chaffmoor_write_checkpoint   20,480 bytes
  *   chaffmoor_read_checkpoint    36,864 bytes
  *
  * The struct layouts are those of the x86-64 System V ABI; the static assertions at the end hold them fast. */
@@ -28,11 +28,11 @@
 #include <stdint.h>
 
 enum {
-    CHAFFMOOR_CALLS = 64,      /* slots for calls */
+    CHAFFMOOR_CALLS = 200,     /* slots for calls; a roster of form 1 uses the first 64 */
     CHAFFMOOR_CUSTOMERS = 8,   /* records of a roster */
     CHAFFMOOR_PLACES = 4,      /* connections under a call, and of Call ID 0 with a customer */
     CHAFFMOOR_NAME = 32,       /* bytes of a long Call ID */
-    CHAFFMOOR_WORDS = 2238,    /* words of a table */
+    CHAFFMOOR_WORDS = 6597,    /* words of a table */
     CHAFFMOOR_REPLY = 128      /* a reply buffer has to have this many bytes, or the answer is 2 */
 };
 
@@ -66,7 +66,7 @@ typedef struct {
 typedef struct {
     uint32_t address;
     uint32_t guarantee;        /* 0 to limit */
-    uint32_t limit;            /* 1 to 64 */
+    uint32_t limit;            /* 1 to 64 under a roster of form 1, 1 to 200 under one of form 2 */
     uint32_t endpoints[CHAFFMOOR_PLACES];
     chaffmoor_place places[CHAFFMOOR_PLACES];
 } chaffmoor_customer;
@@ -76,7 +76,9 @@ typedef struct {
     uint32_t epoch;            /* the node's own, 24 bits */
     uint32_t next;             /* the identifier that the next Notify carries */
     uint32_t listed;           /* how many of the customers are listed, 0 to 8 */
-    uint32_t occupied[2];      /* bit i of the first: slot i of calls is used; of the second: slot 32 + i */
+    uint32_t form;             /* the roster's: 1, 64 calls in all, or 2, 200; 0 where no customer is listed */
+    uint32_t occupied[8];      /* bit i % 32 of word i / 32: slot i of calls is used. Bits 64 and above are clear under
+                                * a roster of form 1, bits 200 to 255 always */
     chaffmoor_customer customers[CHAFFMOOR_CUSTOMERS];
     chaffmoor_call calls[CHAFFMOOR_CALLS];
 } chaffmoor_table;
@@ -153,10 +155,11 @@ CHAFFMOOR_AT(chaffmoor_table, address, 0);
 CHAFFMOOR_AT(chaffmoor_table, epoch, 4);
 CHAFFMOOR_AT(chaffmoor_table, next, 8);
 CHAFFMOOR_AT(chaffmoor_table, listed, 12);
-CHAFFMOOR_AT(chaffmoor_table, occupied, 16);
-CHAFFMOOR_AT(chaffmoor_table, customers, 24);
-CHAFFMOOR_AT(chaffmoor_table, calls, 760);
-CHAFFMOOR_SIZE(chaffmoor_table, 8952);
+CHAFFMOOR_AT(chaffmoor_table, form, 16);
+CHAFFMOOR_AT(chaffmoor_table, occupied, 20);
+CHAFFMOOR_AT(chaffmoor_table, customers, 52);
+CHAFFMOOR_AT(chaffmoor_table, calls, 788);
+CHAFFMOOR_SIZE(chaffmoor_table, 26388);
 _Static_assert(sizeof(chaffmoor_table) == 4 * CHAFFMOOR_WORDS, "a table is its words");
 _Static_assert(_Alignof(chaffmoor_table) == 4, "the alignment of a table");
 

@@ -1,4 +1,4 @@
-"""Rosters, messages, checkpoints and frames, built from the layouts of documents 01 and 02 (request A13).
+"""Rosters, messages, checkpoints and frames, built from the layouts of documents 01 and 02 (requests A11 and A13).
 
 The node's own address is END; every message goes to it. An extended tunnel ID is the sender's address. A checkpoint's
 records can have others.
@@ -20,12 +20,23 @@ def address(dotted):
 
 def roster(*customers):
     """form 1, END, epoch 7; then (address, guarantee, limit) for each customer"""
-    head = bytes([0x10 | len(customers)]) + address(END) + (7).to_bytes(3, "big")
-    return head + b"".join(address(a) + struct.pack(">H", g << 9 | l << 2) for a, g, l in customers)
+    records = [address(a) + struct.pack(">H", g << 9 | l << 2) for a, g, l in customers]
+    return roster_head(1, customers) + b"".join(records)
 
 
-# 01's two customers: X has guarantee 1 and limit 2, Y has 62 and 64.
+def roster_2(*customers):
+    """the same in form 2, whose total is 200: eight bits of guarantee and eight of limit"""
+    records = [address(a) + bytes([g, l]) for a, g, l in customers]
+    return roster_head(2, customers) + b"".join(records)
+
+
+def roster_head(form, customers):
+    return bytes([form << 4 | len(customers)]) + address(END) + (7).to_bytes(3, "big")
+
+
+# 01's two customers: X has guarantee 1 and limit 2, Y has 62 and 64; in form 2 Y has 198 and 200.
 TWO = roster((X, 1, 2), (Y, 62, 64))
+TWO_2 = roster_2((X, 1, 2), (Y, 198, 200))
 
 
 # Messages.

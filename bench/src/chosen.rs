@@ -9,7 +9,7 @@ pub enum Chosen {
     Spread,
     /// So that all keys of one kind coincide in the chains of the rule check (crates/rule_keys).
     Chains,
-    /// So that they coincided in the marks that stood before the chains.
+    /// So that they coincided in the marks that stood before the chains. There are names for 100 calls.
     Marks,
 }
 
@@ -24,6 +24,16 @@ const EXTENDED_MARK: u32 = 6_559_613;
 const MARK: u32 = 0x00ff_ffff;
 
 impl Chosen {
+    /// In the name of a row.
+    pub fn row_name(self) -> &'static str {
+        match self {
+            Chosen::Next => "",
+            Chosen::Spread => ", names spread",
+            Chosen::Chains => ", chosen for chains",
+            Chosen::Marks => ", chosen for marks",
+        }
+    }
+
     /// The name of a call.
     pub fn name(self, call: u32) -> Vec<u8> {
         match self {
@@ -31,7 +41,7 @@ impl Chosen {
             Chosen::Spread => format!("transfer-{:04}", 3 * call).into_bytes(),
             Chosen::Chains => alike(call),
             // The sum of the bytes, and the sum of all sums on the way, are the same for each.
-            Chosen::Marks => vec![100 + call as u8, 200 - 2 * call as u8, 100 + call as u8],
+            Chosen::Marks => vec![100 + call as u8, (200 - 2 * call) as u8, 100 + call as u8],
         }
     }
 
@@ -77,14 +87,14 @@ mod tests {
             let product = |k: usize| word(name, 4 * k).wrapping_mul(NAME[k]);
             product(0).wrapping_add(product(1))
         };
-        let names: Vec<_> = (0..64).map(|call| Chosen::Chains.name(call)).collect();
+        let names: Vec<_> = (0..200).map(|call| Chosen::Chains.name(call)).collect();
         assert!(names.iter().all(|name| key(name) == key(&names[0]) && name.len() == 9));
-        assert!((1..64).all(|i| !names[..i].contains(&names[i])));
+        assert!((1..200).all(|i| !names[..i].contains(&names[i])));
     }
 
     #[test]
     fn connections_with_one_key() {
-        for tunnel in 0..256 {
+        for tunnel in 0..800 {
             let extended = |chosen: Chosen| chosen.extended(tunnel).expect("another than the sender");
             let product = u32::from(tunnel).wrapping_mul(TUNNEL);
             assert_eq!(product.wrapping_add(extended(Chosen::Chains).wrapping_mul(EXTENDED)), 0);

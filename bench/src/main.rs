@@ -1,9 +1,10 @@
 //! bench [quick]: time per message of the proved program, through its C interface, as a ratio to the second program
-//! doing the same checks, at tables of 64, 32, 16 and 0 calls; then the size of the table and the stack that is used.
+//! doing the same checks, at tables of 200, 100 and 0 calls under a roster of form 2 and of 64, 32, 16 and 0 under one of
+//! form 1; then the size of the table and the stack that is used.
 //! With `quick` each is measured once only, to see that it runs.
 //!
-//! bench peer [quick]: the same as a ratio to the yardstick, the tuned peer, at tables of 64, 32, 16 and 0 calls, at
-//! tables chosen to be slow, and in reading alone.
+//! bench peer [quick]: the same as a ratio to the yardstick, the tuned peer, at the same tables, at tables chosen to be
+//! slow, and in reading alone.
 
 mod checkpoints;
 mod chosen;
@@ -38,6 +39,6 @@ fn beside_the_second() {
     ALL.iter()
         .filter(of_eight)
         .for_each(|calls| checkpoints::measure(*calls));
-    checkpoints::measure_largest();
+    checkpoints::measure_large();
     sizes::print();
 }

@@ -1,6 +1,7 @@
 //! The size of the table, and the stack that the proved program's functions use at a full one.
 
-use crate::inputs::{calls, Pairs};
+use crate::checkpoints;
+use crate::inputs::{calls, wide, Calls, Pairs};
 use crate::messages::{self, Row};
 use crate::output;
 use crate::stack;
@@ -11,7 +12,12 @@ use std::hint::black_box;
 pub fn print() {
     output::head_of_sizes();
     output::size("the table", size_of::<Table>());
-    let full = calls(64, Pairs::One);
+    print_stack(wide(200, Pairs::One));
+    print_stack(calls(64, Pairs::One));
+}
+
+/// The stack of every function at a full table.
+fn print_stack(full: Calls) {
     for row in messages::rows(full) {
         output::size(&format!("stack, {}", row.name), stack_of(&row));
     }
@@ -19,15 +25,16 @@ pub fn print() {
     let used = stack::used(|| {
         black_box(first::read_roster(&mut table, &roster));
     });
-    output::size("stack, reading a roster", used);
+    output::size(&format!("stack, reading a roster{}", full.form_name()), used);
     let mut table = full.table();
-    let (mut checkpoint, mut length) = (vec![0; 10_000], 0);
+    let (mut checkpoint, mut length) = (vec![0; checkpoints::MOST], 0);
     let used = stack::used(|| length = first::write_checkpoint(&table, &mut checkpoint).1);
-    output::size("stack, writing a checkpoint, 64 calls", used);
+    let name = full.name("");
+    output::size(&format!("stack, writing a checkpoint, {name}"), used);
     let used = stack::used(|| {
         black_box(first::read_checkpoint(&mut table, true, &roster, &checkpoint[..length]));
     });
-    output::size("stack, reading a checkpoint, salvage, 64 calls", used);
+    output::size(&format!("stack, reading a checkpoint, salvage, {name}"), used);
 }
 
 /// The most that one of the row's messages uses.

@@ -4,7 +4,7 @@
 
 use crate::chosen::Chosen;
 use crate::clock::SHORT;
-use crate::inputs::{calls, chosen, Calls, Pairs};
+use crate::inputs::{calls, chosen, wide, Calls, Pairs};
 use crate::messages::{self, Row};
 use crate::output;
 use crate::parts;
@@ -13,7 +13,7 @@ use compare::first;
 use compare::layout::{words, words_mut};
 use std::hint::black_box;
 
-const TABLES: [Calls; 11] = [
+const TABLES: [Calls; 19] = [
     calls(0, Pairs::Own),
     calls(16, Pairs::Own),
     calls(16, Pairs::Eight),
@@ -24,30 +24,34 @@ const TABLES: [Calls; 11] = [
     calls(64, Pairs::Own),
     calls(64, Pairs::Eight),
     calls(64, Pairs::One),
-    chosen(Chosen::Spread),
+    chosen(calls(64, Pairs::One), Chosen::Spread),
+    wide(0, Pairs::Own),
+    wide(100, Pairs::Own),
+    wide(100, Pairs::Eight),
+    wide(100, Pairs::One),
+    wide(200, Pairs::Own),
+    wide(200, Pairs::Eight),
+    wide(200, Pairs::One),
+    chosen(wide(200, Pairs::One), Chosen::Spread),
 ];
 
 /// Tables whose keys all meet: for each program there are some, and they are not the same, so that a ratio says little.
-const SLOW: [(&str, Calls); 2] = [
-    ("chosen for chains", chosen(Chosen::Chains)),
-    ("chosen for marks", chosen(Chosen::Marks)),
+const SLOW: [Calls; 3] = [
+    chosen(wide(200, Pairs::One), Chosen::Chains),
+    chosen(calls(64, Pairs::One), Chosen::Chains),
+    chosen(calls(64, Pairs::One), Chosen::Marks),
 ];
 
 pub fn print() {
     output::head_of_ratios();
     let (mut worst, mut slowest, mut deepest) = (0f64, 0f64, 0);
     for calls in TABLES {
-        let spread = if calls.chosen == Chosen::Spread {
-            ", names spread"
-        } else {
-            ""
-        };
-        let (times, stack) = table(calls, spread);
+        let (times, stack) = table(calls);
         worst = times.iter().fold(worst, |worst, times| worst.max(times.0 / times.1));
         deepest = deepest.max(stack);
     }
-    for (how, calls) in SLOW {
-        let (times, stack) = table(calls, &format!(", {how}"));
+    for calls in SLOW {
+        let (times, stack) = table(calls);
         slowest = times.iter().fold(slowest, |slowest, times| slowest.max(times.0));
         deepest = deepest.max(stack);
     }
@@ -60,10 +64,11 @@ pub fn print() {
 }
 
 /// Prints a row for each kind of message at a table, and one for the rule check: their times, and the deepest stack.
-fn table(calls: Calls, how: &str) -> (Vec<(f64, f64)>, usize) {
+fn table(calls: Calls) -> (Vec<(f64, f64)>, usize) {
     let (mut all, mut deepest) = (Vec::new(), 0);
     let mut note = |what: &str, times: (f64, f64)| {
-        output::ratio(&format!("{what}{how}"), (calls.count, calls.pairs()), times);
+        let input = format!("{what}{}{}", calls.chosen.row_name(), calls.form_name());
+        output::ratio(&input, (calls.count, calls.pairs()), times);
         all.push(times);
     };
     for row in messages::rows(calls) {

@@ -16,8 +16,9 @@ pub(crate) const GUARD: usize = 32;
 pub struct Done {
     pub answer: u8,
     pub length: usize,
-    pub first: Table,
-    pub second: Table,
+    /// In boxes, for they are large and are handed on.
+    pub first: Box<Table>,
+    pub second: Box<Table>,
     /// The bytes that the buffer held before, guards included, and those that it holds now.
     pub old: Vec<u8>,
     pub buffer: Vec<u8>,
@@ -38,9 +39,14 @@ pub fn message(tables: (&Table, &Table), message: &[u8], buffer: usize, random: 
     let mut table = Lent::new(tables.0);
     let first = first::handle(&mut table.table, message, &mut one[lent.clone()]);
     table.check()?;
-    let second = AssertUnwindSafe(|| second::handle(tables.1, message, &mut other[lent]));
+    let mut after = Box::new(Table::EMPTY);
+    let second = AssertUnwindSafe(|| {
+        let (answer, length, table) = second::handle(tables.1, message, &mut other[lent]);
+        *after = table;
+        (answer, length)
+    });
     let second = catch_unwind(second).map_err(|_| format!("answers: first {}, second panics", first.0))?;
-    if (first.0, first.1) != (second.0, second.1) {
+    if first != second {
         return Err(format!(
             "answers: first {} length {}, second {} length {}",
             first.0, first.1, second.0, second.1
@@ -48,12 +54,12 @@ pub fn message(tables: (&Table, &Table), message: &[u8], buffer: usize, random: 
     }
     let answers = format!("answers: both {} length {}", first.0, first.1);
     same_buffers(&one, &other, &old, first.1).map_err(|what| format!("{answers}; {what}"))?;
-    same_tables(&table.table, &second.2).map_err(|what| format!("{answers}; {what}"))?;
+    same_tables(&table.table, &after).map_err(|what| format!("{answers}; {what}"))?;
     let done = Done {
         answer: first.0,
         length: first.1,
-        first: table.table,
-        second: second.2,
+        first: Box::new(table.table),
+        second: after,
         old,
         buffer: one,
     };

@@ -1,6 +1,8 @@
 //! Builds messages and rosters from the layouts of 01 ("Message layout", "The roster"): every object, and the
 //! checksum right, left out or wrong.
 
+use crate::form;
+
 pub const PATH: u8 = 1;
 pub const PATH_TEAR: u8 = 5;
 pub const NOTIFY: u8 = 21;
@@ -249,16 +251,26 @@ fn of_connection(kind: u8, connection: Connection, call: u16) -> Vec<u8> {
 #[derive(Clone, Copy, Debug)]
 pub struct Record {
     pub address: u32,
-    /// Seven bits each.
+    /// Seven bits each in form 1, eight in form 2.
     pub guarantee: u8,
     pub limit: u8,
-    /// Two bits, zero in an acceptable record.
+    /// Two bits, zero in an acceptable record of form 1. Form 2 has none.
     pub spare: u8,
 }
 
-/// A roster. The customer count that is sent is that of `records`, unless `write` is told another.
+/// The largest guarantee and limit that a record has room for.
+pub fn largest_share(form: u8) -> usize {
+    match form {
+        2 => 255,
+        _ => 127,
+    }
+}
+
+/// A roster. Form and customer count that are sent are its own, unless `write` is told others.
 #[derive(Clone, Debug)]
 pub struct Roster {
+    /// How its records are packed.
+    pub form: u8,
     pub address: u32,
     pub epoch: u32,
     pub records: Vec<Record>,
@@ -266,7 +278,11 @@ pub struct Roster {
 
 impl Roster {
     pub fn bytes(&self) -> Vec<u8> {
-        self.write(1, self.records.len() as u8)
+        self.write(self.form, self.records.len() as u8)
+    }
+
+    pub fn total(&self) -> usize {
+        form::total(self.form)
     }
 
     /// The roster with this form number and customer count, whatever it has.
@@ -275,11 +291,19 @@ impl Roster {
         bytes.extend(self.address.to_be_bytes());
         bytes.extend(&self.epoch.to_be_bytes()[1..]);
         for record in &self.records {
-            let share = u16::from(record.guarantee & 127) << 9 | u16::from(record.limit & 127) << 2;
             bytes.extend(record.address.to_be_bytes());
-            bytes.extend((share | u16::from(record.spare & 3)).to_be_bytes());
+            bytes.extend(share_bits(self.form, record).to_be_bytes());
         }
         bytes
+    }
+}
+
+/// A record's last 16 bits: 7 guarantee, 7 limit, 2 spare in form 1; 8 and 8 in form 2.
+fn share_bits(form: u8, record: &Record) -> u16 {
+    let (guarantee, limit) = (u16::from(record.guarantee), u16::from(record.limit));
+    match form {
+        2 => guarantee << 8 | limit,
+        _ => (guarantee & 127) << 9 | (limit & 127) << 2 | u16::from(record.spare & 3),
     }
 }
 
@@ -301,11 +325,14 @@ mod tests {
             spare: 0,
         };
         let roster = Roster {
+            form: 1,
             address: 0x0a00_0002,
             epoch: 7,
             records: vec![record],
         };
         assert_eq!(roster.bytes(), bytes("110a000002000007 0a0000010208"));
+        let roster = Roster { form: 2, ..roster };
+        assert_eq!(roster.bytes(), bytes("210a000002000007 0a0000010102"));
         let fields = Fields {
             endpoint: 0x0a00_0002,
             call: 5,

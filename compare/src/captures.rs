@@ -6,20 +6,27 @@ use crate::random::Random;
 use crate::tally::Tally;
 use crate::trials::hex;
 
-/// Sends every message of the file to both programs, with a fresh table and with a full one. How many there were.
+/// Sends every message of the file to both programs, with a fresh table and with a full one of each form. How many there
+/// were.
 pub fn run(text: &str, random: &mut Random, tally: &mut Tally) -> Result<usize, String> {
-    let Full { fresh, full, .. } = Full::new(random)?;
+    let (one, two) = (Full::new(1, random)?, Full::new(2, random)?);
+    let states = [
+        ("fresh, form 1", &one.fresh),
+        ("full, form 1", &one.full),
+        ("fresh, form 2", &two.fresh),
+        ("full, form 2", &two.full),
+    ];
     let lines = text.lines().map(str::trim);
     let lines = lines.filter(|line| !line.is_empty() && !line.starts_with('#'));
     let mut count = 0;
     for line in lines {
         let message = message(line).ok_or_else(|| format!("no captured message: {line}"))?;
-        for (state, tables) in [("fresh", &fresh), ("full", &full)] {
+        for (state, tables) in states {
             for buffer in [127, 128, 300] {
                 let done = both::message((&tables.first, &tables.second), &message, buffer, random);
                 let done = done.map_err(|what| {
                     format!(
-                        "{line}: {state} table, buffer {buffer}: {what}\nmessage {}",
+                        "{line}: table {state}, buffer {buffer}: {what}\nmessage {}",
                         hex(&message)
                     )
                 })?;

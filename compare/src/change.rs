@@ -1,25 +1,27 @@
 //! Changes one field of a table at random: to any value, to one next to it, to zero, or to what the same field holds
 //! elsewhere in the table.
 
+use crate::layout::SLOTS;
 use crate::random::Random;
 use second::table::{Call, Customer, Place, Table};
 
 pub fn one_field(table: &mut Table, random: &mut Random) {
     let (customers, calls) = (table.customers, table.calls);
-    match random.below(16) {
+    match random.below(17) {
         0 => number(&mut table.listed, &[8, 9], random),
         1 => number(&mut table.epoch, &[1 << 24], random),
         2 => number(&mut table.address, &[], random),
-        3 => table.occupied[random.below(2)] ^= 1 << random.below(32),
+        3 => table.occupied[random.below(8)] ^= 1 << random.below(32),
         4 => number(&mut table.next, &[], random),
-        5..=8 => {
+        5 => number(&mut table.form, &[1, 2, 3], random),
+        6..=9 => {
             let listed = (table.listed as usize).clamp(1, 8);
             let end = *random.pick(&[listed, 8]);
             let place = random.below(end);
             of_customer(&mut table.customers[place], random.pick(&customers), random);
         }
         _ => {
-            let end = *random.pick(&[16, 64]);
+            let end = *random.pick(&[16, 64, SLOTS]);
             let slot = random.below(end);
             of_call(&mut table.calls[slot], random.pick(&calls), random);
         }
@@ -31,7 +33,7 @@ fn of_customer(customer: &mut Customer, other: &Customer, random: &mut Random) {
     match random.below(6) {
         0 => number(&mut customer.address, &[other.address], random),
         1 => number(&mut customer.guarantee, &[other.guarantee, customer.limit], random),
-        2 => number(&mut customer.limit, &[other.limit, customer.guarantee, 64], random),
+        2 => number(&mut customer.limit, &[other.limit, customer.guarantee, 64, 200], random),
         3 => number(&mut customer.endpoints[place], &other.endpoints, random),
         4 => {
             let from = random.below(4);

@@ -75,6 +75,7 @@ fn tables(random: &mut Random) -> Result<Tables, String> {
         spare: 0,
     };
     let roster = Roster {
+        form: 1,
         address: ENDPOINT,
         epoch: 7,
         records: vec![record],

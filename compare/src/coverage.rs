@@ -2,27 +2,112 @@
 
 use crate::both::Done;
 use crate::build::D;
-use crate::form::long_id;
+use crate::form::{self, long_id};
+use crate::layout::SLOTS;
 use crate::ledger::Seen;
 use crate::rosters::Shape;
 use crate::source::Made;
 use crate::tables;
 use crate::tally::Tally;
-use second::table::{Place, Table};
+use second::table::{Customer, Place, Table};
 
-pub const SITUATIONS: &[&str] = &[
-    "setup with S 64: one customer 64 of 64",
-    "setup with S 64: X 1 of 2, Y 62 of 64",
-    "setup with S 64: eight times 8 of 64",
-    "setup with S 64: guarantees 0",
-    "setup with S 64: random roster",
-    "setup with 64 calls open",
-    "34 at the limit, room left",
-    "34 without room, under the limit",
-    "20 within the guarantee, S 64",
-    "21 where a new call would be 34",
-    "30 where a new call would be 34",
-    "31 where a new call would be 34",
+/// How the shares stood at a setup, by the roster's form.
+struct Shares {
+    one: &'static str,
+    two: &'static str,
+    eight: &'static str,
+    no_guarantees: &'static str,
+    random: &'static str,
+    full: &'static str,
+    at_limit: &'static str,
+    no_room: &'static str,
+    within: &'static str,
+    open_already: &'static str,
+    short_in_use: &'static str,
+    long_in_use: &'static str,
+}
+
+const SHARES: [Shares; 2] = [
+    Shares {
+        one: "form 1, setup with S 64: one customer 64 of 64",
+        two: "form 1, setup with S 64: X 1 of 2, Y 62 of 64",
+        eight: "form 1, setup with S 64: eight times 8 of 64",
+        no_guarantees: "form 1, setup with S 64: guarantees 0",
+        random: "form 1, setup with S 64: random roster",
+        full: "form 1, setup with 64 calls open",
+        at_limit: "form 1, 34 at the limit, room left",
+        no_room: "form 1, 34 without room, under the limit",
+        within: "form 1, 20 within the guarantee, S 64",
+        open_already: "form 1, 21 where a new call would be 34",
+        short_in_use: "form 1, 30 where a new call would be 34",
+        long_in_use: "form 1, 31 where a new call would be 34",
+    },
+    Shares {
+        one: "form 2, setup with S 200: one customer 200 of 200",
+        two: "form 2, setup with S 200: X 1 of 2, Y 198 of 200",
+        eight: "form 2, setup with S 200: eight times 25 of 200",
+        no_guarantees: "form 2, setup with S 200: guarantees 0",
+        random: "form 2, setup with S 200: random roster",
+        full: "form 2, setup with 200 calls open",
+        at_limit: "form 2, 34 at the limit, room left",
+        no_room: "form 2, 34 without room, under the limit",
+        within: "form 2, 20 within the guarantee, S 200",
+        open_already: "form 2, 21 where a new call would be 34",
+        short_in_use: "form 2, 30 where a new call would be 34",
+        long_in_use: "form 2, 31 where a new call would be 34",
+    },
+];
+
+impl Shares {
+    fn all(&self) -> [&'static str; 12] {
+        [
+            self.one,
+            self.two,
+            self.eight,
+            self.no_guarantees,
+            self.random,
+            self.full,
+            self.at_limit,
+            self.no_room,
+            self.within,
+            self.open_already,
+            self.short_in_use,
+            self.long_in_use,
+        ]
+    }
+}
+
+/// The first slot that form 1 does not have.
+const FAR: usize = form::total(1);
+
+/// Answers about a call in a slot that form 1 does not have.
+const FAR_SLOTS: [(u8, &str); 12] = [
+    (14, "form 2, slots from 64 on: 14"),
+    (20, "form 2, slots from 64 on: 20"),
+    (21, "form 2, slots from 64 on: 21"),
+    (22, "form 2, slots from 64 on: 22"),
+    (23, "form 2, slots from 64 on: 23"),
+    (24, "form 2, slots from 64 on: 24"),
+    (25, "form 2, slots from 64 on: 25"),
+    (30, "form 2, slots from 64 on: 30"),
+    (31, "form 2, slots from 64 on: 31"),
+    (32, "form 2, slots from 64 on: 32"),
+    (33, "form 2, slots from 64 on: 33 beside one of its IDs"),
+    (37, "form 2, slots from 64 on: 37"),
+];
+
+/// Everything that a run has to come into.
+pub fn situations() -> Vec<&'static str> {
+    let shares = SHARES.iter().flat_map(Shares::all);
+    let far = FAR_SLOTS.iter().map(|line| line.1);
+    shares.chain(far).chain(OTHERS.iter().copied()).collect()
+}
+
+const OTHERS: &[&str] = &[
+    "form 2, 20 where S is 64 and more",
+    "form 2, 34 at a limit above 64, room left",
+    "form 2, 20 into a slot from 192 on",
+    "form 2, 20 into a slot from 64 on below a used one",
     "own identifier goes from 4,294,967,295 to 0",
     "checksum FFFF for zero, received",
     "checksum FFFF for zero, sent",
@@ -61,6 +146,8 @@ pub const SITUATIONS: &[&str] = &[
 
 /// A message on its way through a stream.
 pub struct Step<'a> {
+    /// Of the roster that the stream began with.
+    pub form: u8,
     pub shape: Shape,
     pub before: &'a Table,
     pub made: &'a Made,
@@ -79,6 +166,7 @@ pub fn note(step: &Step, tally: &mut Tally) {
     }
     limits(step, tally);
     if step.made.whole {
+        far_slot(step, tally);
         match step.done.answer {
             20 => opened(step, tally),
             13 if step.made.fields.call != 0 => unnamed(step, tally),
@@ -97,27 +185,72 @@ fn setup(step: &Step, seen: Seen, calls: usize, tally: &mut Tally) {
     let Some(due) = seen.due else {
         return;
     };
+    let shares = &SHARES[usize::from(step.form) - 1];
     if seen.no_room {
         tally.situation(match step.shape {
-            Shape::One => "setup with S 64: one customer 64 of 64",
-            Shape::Two => "setup with S 64: X 1 of 2, Y 62 of 64",
-            Shape::Eight => "setup with S 64: eight times 8 of 64",
-            Shape::NoGuarantees => "setup with S 64: guarantees 0",
-            Shape::Random | Shape::Refused => "setup with S 64: random roster",
+            Shape::One => shares.one,
+            Shape::Two => shares.two,
+            Shape::Eight => shares.eight,
+            Shape::NoGuarantees => shares.no_guarantees,
+            Shape::Random | Shape::Refused => shares.random,
         });
     }
-    if calls == 64 {
-        tally.situation("setup with 64 calls open");
+    if calls == form::total(step.form) {
+        tally.situation(shares.full);
     }
     let refusable = !seen.below && (seen.at_limit || seen.no_room);
     match due {
-        20 if seen.no_room => tally.situation("20 within the guarantee, S 64"),
-        34 if !seen.no_room => tally.situation("34 at the limit, room left"),
-        34 if !seen.at_limit => tally.situation("34 without room, under the limit"),
-        21 if refusable => tally.situation("21 where a new call would be 34"),
-        30 if refusable => tally.situation("30 where a new call would be 34"),
-        31 if refusable => tally.situation("31 where a new call would be 34"),
+        20 if seen.no_room => tally.situation(shares.within),
+        34 if !seen.no_room => tally.situation(shares.at_limit),
+        34 if !seen.at_limit => tally.situation(shares.no_room),
+        21 if refusable => tally.situation(shares.open_already),
+        30 if refusable => tally.situation(shares.short_in_use),
+        31 if refusable => tally.situation(shares.long_in_use),
         _ => {}
+    }
+    match due {
+        20 if tables::taken(step.before) >= FAR && step.form == 2 => {
+            tally.situation("form 2, 20 where S is 64 and more");
+        }
+        34 if !seen.no_room && calls > FAR && step.form == 2 && at_wide_limit(step) => {
+            tally.situation("form 2, 34 at a limit above 64, room left");
+        }
+        _ => {}
+    }
+}
+
+/// Whether the sender's limit is one that form 1 does not have.
+fn at_wide_limit(step: &Step) -> bool {
+    let sender = step.made.fields.sender;
+    let limit = |one: &Customer| one.address == sender && one.limit as usize > FAR;
+    step.made.whole && tables::listed(step.before).iter().any(limit)
+}
+
+/// Whether the answer is about a call in a slot that form 1 does not have.
+fn far_slot(step: &Step, tally: &mut Tally) {
+    let Some(&(answer, name)) = FAR_SLOTS.iter().find(|line| line.0 == step.done.answer) else {
+        return;
+    };
+    let fields = &step.made.fields;
+    let (before, after) = (step.before, &step.done.first);
+    let is_far = (FAR..SLOTS).any(|slot| {
+        let (old, new) = (&before.calls[slot], &after.calls[slot]);
+        let in_pair = (old.endpoint, old.sender) == (fields.endpoint, fields.sender) && old.size > 0;
+        let short = old.id == fields.call.into();
+        let is_held = |place: &Place| {
+            let numbers = (fields.tunnel.into(), fields.extended, fields.lsp.into());
+            tables::is_taken(place) && (place.tunnel, place.extended, place.lsp) == numbers
+        };
+        match answer {
+            20 | 22 | 23 | 25 => old != new,
+            21 | 30 | 32 | 37 => in_pair && short,
+            31 => in_pair && tables::name(old) == long_id(&fields.name),
+            33 => in_pair && (short || tables::name(old) == long_id(&fields.name)),
+            _ => in_pair && old.places.iter().any(is_held),
+        }
+    });
+    if is_far {
+        tally.situation(name);
     }
 }
 
@@ -218,9 +351,18 @@ fn opened(step: &Step, tally: &mut Tally) {
     if tables::calls(step.before).any(|call| call.id == fields.call.into() && tables::name(call) == name) {
         tally.situation("20 with the IDs of a call of another pair");
     }
-    let (before, after) = (tables::occupied(step.before), tables::occupied(&step.done.first));
-    if before > before ^ after {
+    let is_new = |&slot: &usize| tables::is_used(&step.done.first, slot) && !tables::is_used(step.before, slot);
+    let slot = (0..SLOTS).find(is_new).expect("an opened call has a slot");
+    let below = tables::used(step.before).last().is_some_and(|&last| last > slot);
+    if below {
         tally.situation("20 into a slot below a used one");
+    }
+    if below && slot >= FAR {
+        tally.situation("form 2, 20 into a slot from 64 on below a used one");
+    }
+    // The last word of occupied bits that has slots.
+    if slot >= SLOTS / 32 * 32 {
+        tally.situation("form 2, 20 into a slot from 192 on");
     }
 }
 

@@ -167,26 +167,27 @@ pub fn long_id(name: &[u8]) -> &[u8] {
     long
 }
 
-/// A roster's answer (01, "The roster").
+/// A roster's answer (01, "The roster", and A11).
 pub fn roster(bytes: &[u8]) -> u8 {
     if bytes.len() < 8 {
         return 40;
     }
     let (form, count) = (bytes[0] / 16, usize::from(bytes[0] % 16));
-    if form != 1 || !(1..=8).contains(&count) {
+    if ![1, 2].contains(&form) || !(1..=8).contains(&count) {
         return 41;
     }
+    let total = total(form);
     if bytes.len() != 8 + 6 * count {
         return 42;
     }
     let (mut addresses, mut guarantees) = (Vec::new(), 0);
     for record in bytes[8..].chunks(6) {
-        let (address, share) = (word(record, 0), half(record, 4));
-        let (guarantee, limit, spare) = (share >> 9, share >> 2 & 127, share & 3);
-        if spare != 0 {
+        let (address, bits) = (word(record, 0), half(record, 4));
+        let (guarantee, limit) = share(form, bits);
+        if form == 1 && bits & 3 != 0 {
             return 43;
         }
-        if !(1..=64).contains(&limit) || guarantee > limit {
+        if !(1..=total).contains(&limit) || guarantee > limit {
             return 44;
         }
         if addresses.contains(&address) {
@@ -195,9 +196,48 @@ pub fn roster(bytes: &[u8]) -> u8 {
         addresses.push(address);
         guarantees += guarantee;
     }
-    match guarantees {
-        0..=64 => 0,
-        _ => 46,
+    if guarantees > total {
+        return 46;
+    }
+    0
+}
+
+/// Guarantee and limit, from the last 16 bits of a record: 7, 7 and 2 that are spare in form 1, 8 and 8 in form 2.
+fn share(form: u8, bits: u16) -> (usize, usize) {
+    let (guarantee, limit) = match form {
+        1 => (bits >> 9, bits >> 2 & 127),
+        _ => (bits >> 8, bits & 255),
+    };
+    (guarantee.into(), limit.into())
+}
+
+/// A customer of an accepted roster.
+pub struct Customer {
+    pub address: u32,
+    pub guarantee: usize,
+    pub limit: usize,
+}
+
+/// The total and the customers of an accepted roster.
+pub fn accepted(roster: &[u8]) -> (usize, Vec<Customer>) {
+    let form = roster[0] / 16;
+    let customer = |record: &[u8]| {
+        let (guarantee, limit) = share(form, half(record, 4));
+        Customer {
+            address: word(record, 0),
+            guarantee,
+            limit,
+        }
+    };
+    (total(form), roster[8..].chunks(6).map(customer).collect())
+}
+
+/// How many calls the customers of a roster of this form can have together (A11); without a roster there are none.
+pub const fn total(form: u8) -> usize {
+    match form {
+        1 => 64,
+        2 => 200,
+        _ => 0,
     }
 }
 

@@ -1,5 +1,5 @@
-//! A table at all its limits, reached by messages: 64 calls of eight customers, four connections under each call and
-//! four of Call ID 0 with each customer.
+//! A table at all its limits, reached by messages: 64 calls of eight customers, or 200 in form 2, four connections under
+//! each call and four of Call ID 0 with each customer.
 
 use crate::both;
 use crate::build::{self, Connection};
@@ -27,14 +27,14 @@ pub struct Full {
 const ENDPOINT: u32 = 0x0a00_0063;
 
 impl Full {
-    pub fn new(random: &mut Random) -> Result<Full, String> {
-        let roster = rosters::shaped(Shape::Eight, random);
+    pub fn new(form: u8, random: &mut Random) -> Result<Full, String> {
+        let roster = rosters::shaped(form, Shape::Eight, random);
         let values = Values::new(&roster, random);
         let (_, first, second) = both::roster(&roster.bytes(), random)?;
         let fresh = Tables { first, second };
         let mut full = fresh;
         for record in &roster.records {
-            fill(&mut full, record.address, random)?;
+            fill(&mut full, record.address, record.guarantee.into(), random)?;
         }
         let roster = roster.bytes();
         Ok(Full {
@@ -46,9 +46,9 @@ impl Full {
     }
 }
 
-/// A customer's eight calls and thirty-six connections.
-fn fill(tables: &mut Tables, sender: u32, random: &mut Random) -> Result<(), String> {
-    for call in 0..=8 {
+/// This many calls of a customer, and four connections under each and of Call ID 0.
+fn fill(tables: &mut Tables, sender: u32, calls: u16, random: &mut Random) -> Result<(), String> {
+    for call in 0..=calls {
         if call > 0 {
             let long = [b'n'; 32];
             let short = [call as u8];
@@ -80,6 +80,6 @@ pub(crate) fn send(tables: &mut Tables, message: &[u8], due: u8, random: &mut Ra
             done.answer
         ));
     }
-    (tables.first, tables.second) = (done.first, done.second);
+    (tables.first, tables.second) = (*done.first, *done.second);
     Ok(())
 }

@@ -2,6 +2,7 @@
 //! that is new, repeated, or at odds with what is there.
 
 use crate::build::{Connection, Fields, C, D, NOTIFY, PATH, PATH_TEAR, R};
+use crate::form;
 use crate::random::Random;
 use crate::tables;
 use crate::values::Values;
@@ -20,6 +21,7 @@ pub enum Intent {
     OpenAny,
     CloseIdle,
     CloseOpen,
+    CloseLit,
     CloseCrossed,
     CloseElsewhere,
     CloseAny,
@@ -56,6 +58,16 @@ pub const FILL: Mode = &[
     (2, TearHeld),
 ];
 
+/// Hardly anything but new calls, so that the slots are used up soon.
+pub const FILL_SOON: Mode = &[
+    (90, OpenNew),
+    (2, OpenAgain),
+    (2, OpenCrossed),
+    (1, CloseIdle),
+    (4, PathNew),
+    (1, PathStandalone),
+];
+
 pub const CHURN: Mode = &[
     (14, OpenNew),
     (8, OpenAgain),
@@ -67,7 +79,8 @@ pub const CHURN: Mode = &[
     (4, OpenZeroInside),
     (4, OpenAny),
     (8, CloseIdle),
-    (5, CloseOpen),
+    (3, CloseOpen),
+    (5, CloseLit),
     (4, CloseCrossed),
     (4, CloseElsewhere),
     (4, CloseAny),
@@ -87,7 +100,7 @@ pub const CHURN: Mode = &[
 pub const CONNECT: Mode = &[
     (6, OpenNew),
     (2, OpenAgain),
-    (3, CloseOpen),
+    (5, CloseLit),
     (30, PathNew),
     (8, PathHeld),
     (8, PathMoved),
@@ -120,7 +133,7 @@ pub const MODES: [(usize, Mode); 4] = [(4, FILL), (4, CHURN), (3, CONNECT), (1, 
 pub fn fields(intent: Intent, values: &Values, table: &Table, random: &mut Random) -> (u8, Fields) {
     let any = any_fields(values, random);
     match intent {
-        CloseIdle | CloseOpen | CloseCrossed | CloseElsewhere | CloseAny => {
+        CloseIdle | CloseOpen | CloseLit | CloseCrossed | CloseElsewhere | CloseAny => {
             let mut fields = closing(intent, any, table, random);
             fields.status |= D;
             pad(&mut fields.name, random);
@@ -234,10 +247,11 @@ fn unused(mut fields: Fields, values: &Values, table: &Table, random: &mut Rando
 }
 
 fn closing(intent: Intent, mut fields: Fields, table: &Table, random: &mut Random) -> Fields {
-    let idle = |call: &&Call| !call.places.iter().any(tables::is_taken);
-    let idle: Vec<Call> = tables::calls(table).filter(idle).copied().collect();
+    let is_lit = |call: &Call| call.places.iter().any(tables::is_taken);
+    let (lit, idle): (Vec<Call>, Vec<Call>) = tables::calls(table).partition(|call| is_lit(call));
     let call = match intent {
         CloseIdle if !idle.is_empty() => Some(*random.pick(&idle)),
+        CloseLit if !lit.is_empty() => Some(*random.pick(&lit)),
         CloseAny => None,
         _ => tables::some_call(table, random),
     };
@@ -319,7 +333,10 @@ fn beside(fields: Fields, table: &Table, random: &mut Random) -> Fields {
 fn crowd(fields: &mut Fields, values: &Values, table: &Table, random: &mut Random) {
     fields.lsp = random.half();
     let places = |call: &&Call| call.places.iter().filter(|place| tables::is_taken(place)).count();
-    match tables::calls(table).max_by_key(places) {
+    // Half the time of those in slots that form 1 does not have, if there are any.
+    let from = *random.pick(&[0, form::total(1)]);
+    let used = tables::used(table).into_iter().filter(|&slot| slot >= from);
+    match used.map(|slot| &table.calls[slot]).max_by_key(places) {
         Some(call) if random.chance(1, 2) => {
             take_pair(fields, call);
             fields.call = call.id as u16;

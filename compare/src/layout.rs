@@ -1,19 +1,26 @@
 //! The table by its words, numbered as the papers number them: which field each word is, and how a table is lent.
 //!
-//! A head of 6 words, then 8 customers of 23 from word 6, then 64 calls of 32 from word 190.
+//! A head of 13 words, then 8 customers of 23 from word 13, then 200 calls of 32 from word 197.
 
 pub use second::table::{Call, Customer, Place, Table};
 use std::mem::{align_of, offset_of, size_of};
 
 /// Words of a table.
-pub const WORDS: usize = 2238;
+pub const WORDS: usize = 6597;
 
 pub type Words = [u32; WORDS];
 
-const CUSTOMERS: usize = 6;
-const CUSTOMER: usize = 23;
-const CALLS: usize = 190;
-const CALL: usize = 32;
+/// Where the occupied bits, the customers and the calls begin, and how many words each of them has.
+const OCCUPIED: usize = 5;
+pub const CUSTOMERS: usize = 13;
+pub const CUSTOMER: usize = 23;
+pub const CALLS: usize = 197;
+pub const CALL: usize = 32;
+
+/// Slots of a table, whatever its roster's total.
+pub const SLOTS: usize = 200;
+/// Occupied bits, those that no slot has included.
+pub const BITS: usize = 32 * (CUSTOMERS - OCCUPIED);
 
 // The header's own static assertions.
 const _: () = assert!(size_of::<Table>() == 4 * WORDS && align_of::<Table>() == 4);
@@ -31,8 +38,9 @@ const _: () = assert!(offset_of!(Customer, limit) == 8 && offset_of!(Customer, e
 const _: () = assert!(offset_of!(Customer, places) == 28);
 const _: () = assert!(offset_of!(Table, address) == 0 && offset_of!(Table, epoch) == 4);
 const _: () = assert!(offset_of!(Table, next) == 8 && offset_of!(Table, listed) == 12);
-const _: () = assert!(offset_of!(Table, occupied) == 16 && offset_of!(Table, customers) == 4 * CUSTOMERS);
-const _: () = assert!(offset_of!(Table, calls) == 4 * CALLS);
+const _: () = assert!(offset_of!(Table, form) == 16 && offset_of!(Table, occupied) == 4 * OCCUPIED);
+const _: () = assert!(offset_of!(Table, customers) == 4 * CUSTOMERS && offset_of!(Table, calls) == 4 * CALLS);
+const _: () = assert!(CALLS + CALL * SLOTS == WORDS);
 
 /// Which field a word is. Numbers of customers, slots and places are from 0.
 #[derive(Clone, Copy, PartialEq, Eq, Debug)]
@@ -41,6 +49,8 @@ pub enum Field {
     Epoch,
     Next,
     Listed,
+    Form,
+    /// 32 of the bits.
     Occupied(usize),
     Customer(usize, OfCustomer),
     Call(usize, OfCall),
@@ -85,7 +95,8 @@ pub fn field(word: usize) -> Field {
         1 => Field::Epoch,
         2 => Field::Next,
         3 => Field::Listed,
-        4 | 5 => Field::Occupied(word - 4),
+        4 => Field::Form,
+        OCCUPIED..CUSTOMERS => Field::Occupied(word - OCCUPIED),
         CUSTOMERS..CALLS => {
             let at = word - CUSTOMERS;
             Field::Customer(at / CUSTOMER, of_customer(at % CUSTOMER))
@@ -194,7 +205,8 @@ mod tests {
                 Field::Epoch => table.epoch,
                 Field::Next => table.next,
                 Field::Listed => table.listed,
-                Field::Occupied(half) => table.occupied[half],
+                Field::Form => table.form,
+                Field::Occupied(part) => table.occupied[part],
                 Field::Customer(customer, of) => {
                     let customer = &table.customers[customer];
                     match of {
@@ -232,12 +244,16 @@ mod tests {
 
     #[test]
     fn numbers_of_the_papers() {
-        assert_eq!(field(6 + 23 * 7 + 3), Field::Customer(7, OfCustomer::EndPoint(0)));
         assert_eq!(
-            field(6 + 23 * 7 + 22),
+            (field(4), field(5), field(12)),
+            (Field::Form, Field::Occupied(0), Field::Occupied(7))
+        );
+        assert_eq!(field(13 + 23 * 7 + 3), Field::Customer(7, OfCustomer::EndPoint(0)));
+        assert_eq!(
+            field(13 + 23 * 7 + 22),
             Field::Customer(7, OfCustomer::Place(3, OfPlace::Lsp))
         );
-        assert_eq!(field(190), Field::Call(0, OfCall::EndPoint));
-        assert_eq!(field(WORDS - 1), Field::Call(63, OfCall::Place(3, OfPlace::Lsp)));
+        assert_eq!(field(197), Field::Call(0, OfCall::EndPoint));
+        assert_eq!(field(WORDS - 1), Field::Call(199, OfCall::Place(3, OfPlace::Lsp)));
     }
 }

@@ -21,6 +21,8 @@ struct Entry {
 }
 
 pub struct Ledger {
+    /// The roster's.
+    total: usize,
     customers: Vec<Customer>,
     addresses: Vec<u32>,
     entries: Vec<Entry>,
@@ -49,6 +51,19 @@ const NOTHING: Seen = Seen {
     sizes: None,
 };
 
+impl Customer {
+    /// Nothing opened yet.
+    fn of(one: form::Customer) -> Customer {
+        Customer {
+            address: one.address,
+            guarantee: one.guarantee,
+            limit: one.limit,
+            opened: 0,
+            closed: 0,
+        }
+    }
+}
+
 impl Entry {
     fn of(request: &Request) -> Entry {
         Entry {
@@ -73,8 +88,10 @@ impl Entry {
 impl Ledger {
     /// The ledger of an accepted roster.
     pub fn new(roster: &[u8]) -> Ledger {
-        let customers: Vec<Customer> = roster[8..].chunks(6).map(customer).collect();
+        let (total, customers) = form::accepted(roster);
+        let customers: Vec<Customer> = customers.into_iter().map(Customer::of).collect();
         Ledger {
+            total,
             addresses: customers.iter().map(|customer| customer.address).collect(),
             customers,
             entries: Vec::new(),
@@ -124,7 +141,7 @@ impl Ledger {
         let count = self.count(customer.address);
         let below = count < customer.guarantee;
         let at_limit = count == customer.limit;
-        let no_room = self.taken() == 64;
+        let no_room = self.taken() == self.total;
         let mut of_pair = self.entries.iter().filter(|entry| entry.of_pair(setup));
         let due = if of_pair.clone().any(|entry| entry.is_call(setup)) {
             21
@@ -177,7 +194,7 @@ impl Ledger {
             }
         }
         match self.taken() {
-            taken @ 65.. => Err(format!("S is {taken}")),
+            taken if taken > self.total => Err(format!("S is {taken}")),
             _ => Ok(()),
         }
     }
@@ -198,18 +215,6 @@ impl Ledger {
     }
 }
 
-/// A roster's record: 32 bits address, 7 guarantee, 7 limit, 2 spare.
-fn customer(record: &[u8]) -> Customer {
-    let bits = record.iter().fold(0u64, |bits, &byte| bits << 8 | u64::from(byte));
-    Customer {
-        address: (bits >> 16) as u32,
-        guarantee: (bits >> 9 & 127) as usize,
-        limit: (bits >> 2 & 127) as usize,
-        opened: 0,
-        closed: 0,
-    }
-}
-
 #[cfg(test)]
 mod tests {
     use super::*;
@@ -220,6 +225,11 @@ mod tests {
 
     /// 01's two customers: X 1 of 2, Y 62 of 64.
     fn two() -> Ledger {
+        two_of(1, 62, 64)
+    }
+
+    /// The same in any form, with other numbers of Y's.
+    fn two_of(form: u8, guarantee: u8, limit: u8) -> Ledger {
         let record = |address, guarantee, limit| Record {
             address,
             guarantee,
@@ -227,9 +237,10 @@ mod tests {
             spare: 0,
         };
         let roster = Roster {
+            form,
             address: 0x0a00_0002,
             epoch: 7,
-            records: vec![record(X, 1, 2), record(Y, 62, 64)],
+            records: vec![record(X, 1, 2), record(Y, guarantee, limit)],
         };
         Ledger::new(&roster.bytes())
     }
@@ -274,6 +285,25 @@ mod tests {
         assert!(feeds(&mut ledger, &open(9, Y, 63, &[63]), 34));
         assert!(feeds(&mut ledger, &close(9, X, 1, b"a"), 22));
         assert!(!feeds(&mut ledger, &open(9, Y, 63, &[63]), 34));
+    }
+
+    /// A11: the same with a total of 200, and the numbers of form 1 in form 2.
+    #[test]
+    fn no_room_in_form_2() {
+        let mut ledger = two_of(2, 198, 200);
+        assert_eq!(ledger.taken(), 199);
+        assert!(feeds(&mut ledger, &open(9, X, 1, b"a"), 20) && feeds(&mut ledger, &open(9, X, 2, b"b"), 20));
+        for id in 1..=198 {
+            assert!(feeds(&mut ledger, &open(9, Y, id, &[id as u8]), 20));
+        }
+        assert!(ledger.taken() == 200 && !feeds(&mut ledger, &open(9, Y, 199, &[199]), 20));
+        assert!(feeds(&mut ledger, &open(9, Y, 199, &[199]), 34));
+        let mut ledger = two_of(2, 62, 64);
+        assert!(feeds(&mut ledger, &open(9, X, 1, b"a"), 20) && feeds(&mut ledger, &open(9, X, 2, b"b"), 20));
+        for id in 1..=64 {
+            assert!(feeds(&mut ledger, &open(9, Y, id, &[id as u8]), 20));
+        }
+        assert!(!feeds(&mut ledger, &open(9, Y, 65, &[65]), 20));
     }
 
     #[test]

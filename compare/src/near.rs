@@ -1,7 +1,10 @@
 //! Near misses: tables that look as if they broke a table rule of 01 and break none. They are never answered 1.
 
+use crate::breaks::form::narrow;
 use crate::breaks::tools::*;
 use crate::breaks::Break;
+use crate::form;
+use crate::layout::SLOTS;
 use crate::random::Random;
 use crate::tables::{self, EMPTY, FREE_CALL};
 use second::table::{Place, Table};
@@ -35,12 +38,15 @@ pub const NEAR_MISSES: &[(&str, Break)] = &[
     ("call in another slot", moved),
     ("any next own identifier", any_next),
     ("own address and epoch 0 or largest", own_numbers),
-    ("limit 64 and guarantee 0", wide_share),
+    ("limit of the total and guarantee 0", wide_share),
     ("calls at the limit", calls_at_limit),
-    ("S 64", all_taken),
+    ("S at the total", all_taken),
     ("name of 32 bytes", long_name),
     ("Call ID 65,535 and name of zeros and a one", far_ids),
     ("empty table, any next own identifier", empty),
+    ("the other form, which the table fits", other_form),
+    ("form 2: call in a slot from 64 on", far_slot),
+    ("form 2: call in slot 199", last_slot),
 ];
 
 /// The second call gets the first one's IDs, at an end point that no call has.
@@ -209,13 +215,39 @@ fn last_place(table: &mut Table, random: &mut Random) -> bool {
 
 fn moved(table: &mut Table, random: &mut Random) -> bool {
     let free = tables::free(table);
+    move_to(table, &free, random)
+}
+
+/// Moves a call into one of these slots, which are free, if there is one.
+fn move_to(table: &mut Table, free: &[usize], random: &mut Random) -> bool {
     let (Some(from), false) = (tables::some_used(table, random), free.is_empty()) else {
         return false;
     };
-    let to = *random.pick(&free);
+    let to = *random.pick(free);
     table.calls.swap(from, to);
     tables::set_used(table, from, false);
     tables::set_used(table, to, true);
+    true
+}
+
+fn far_slot(table: &mut Table, random: &mut Random) -> bool {
+    let mut free = tables::free(table);
+    free.retain(|&slot| slot >= form::total(1));
+    move_to(table, &free, random)
+}
+
+fn last_slot(table: &mut Table, random: &mut Random) -> bool {
+    let mut free = tables::free(table);
+    free.retain(|&slot| slot == SLOTS - 1);
+    move_to(table, &free, random)
+}
+
+/// A table of form 1 is one of form 2 as it stands; one of form 2 is brought within form 1 first.
+fn other_form(table: &mut Table, _: &mut Random) -> bool {
+    if table.form == 2 {
+        narrow(table);
+    }
+    table.form = 3 - table.form;
     true
 }
 
@@ -235,8 +267,9 @@ fn wide_share(table: &mut Table, random: &mut Random) -> bool {
     let Some(customer) = some_customer(table, random) else {
         return false;
     };
+    let total = tables::total(table) as u32;
     let one = &mut table.customers[customer];
-    (one.guarantee, one.limit) = (0, 64);
+    (one.guarantee, one.limit) = (0, total);
     true
 }
 
@@ -254,7 +287,8 @@ fn all_taken(table: &mut Table, random: &mut Random) -> bool {
     let Some(customer) = some_customer(table, random) else {
         return false;
     };
-    raise_taken(table, customer, 64);
+    let total = tables::total(table);
+    raise_taken(table, customer, total);
     true
 }
 

@@ -1,15 +1,18 @@
 //! Values outside their fields, for every word of a table: what a word is set to, and which rule that breaks for sure.
 
-use crate::layout::{field, words, words_mut, Field, OfCall, OfCustomer, OfPlace, WORDS};
+use crate::layout::{
+    field, words, words_mut, Field, OfCall, OfCustomer, OfPlace, CALL, CALLS, CUSTOMER, CUSTOMERS, WORDS,
+};
 use crate::random::Random;
-use crate::tables::{is_taken, is_used};
+use crate::tables::{is_taken, is_used, total, used};
 use second::table::{Place, Table};
 
 /// What every word is set to, besides each of its bits turned over.
-pub const VALUES: [u32; 24] = [
+pub const VALUES: [u32; 27] = [
     0,
     1,
     2,
+    3,
     7,
     8,
     9,
@@ -18,6 +21,8 @@ pub const VALUES: [u32; 24] = [
     40,
     64,
     65,
+    200,
+    201,
     255,
     256,
     257,
@@ -40,9 +45,12 @@ pub const REFUSED: &[&str] = &[
     "word: own epoch of the empty table",
     "word: own epoch above 24 bits",
     "word: listed above 8",
+    "word: form of the empty table",
+    "word: form 0 or above 2",
     "word: occupied bits",
+    "word: occupied bits outside the total",
     "word: guarantee above the limit",
-    "word: limit 0 or above 64",
+    "word: limit 0 or above the total",
     "word: call's last refresh",
     "word: call's request epoch",
     "word: call's request identifier",
@@ -65,6 +73,7 @@ pub const REFUSED: &[&str] = &[
     "word: customer's free place, end point",
     "word: unused record not zeros",
     "word: free slot not zeros",
+    "word: slot outside the total not zeros",
 ];
 
 /// Values that no rule looks at: never answer 1.
@@ -87,35 +96,48 @@ pub enum Due {
 
 use Due::{Kept, Open, Refused};
 
-/// A table that breaks no rule, with one word changed.
+/// A change of one word of a table that breaks no rule.
+#[derive(Clone, Copy)]
 pub struct Changed {
-    pub table: Table,
     pub word: usize,
+    pub value: u32,
     pub due: Due,
 }
 
-/// The table with `word` set to `value`; none where it had that value.
-pub fn change(table: &Table, word: usize, value: u32) -> Option<Changed> {
-    if words(table)[word] == value {
-        return None;
+impl Changed {
+    /// The table with this change.
+    pub fn of(&self, table: &Table) -> Table {
+        let mut changed = *table;
+        words_mut(&mut changed)[self.word] = self.value;
+        changed
     }
-    let mut changed = *table;
-    words_mut(&mut changed)[word] = value;
-    let due = due(table, word, value);
-    Some(Changed {
-        table: changed,
+}
+
+/// `word` set to `value`; none where it has that value.
+pub fn change(table: &Table, word: usize, value: u32) -> Option<Changed> {
+    (words(table)[word] != value).then(|| Changed {
         word,
-        due,
+        value,
+        due: due(table, word, value),
     })
 }
 
-/// Every word with every value and with each bit turned over.
-pub fn every_word(table: &Table) -> impl Iterator<Item = Changed> + '_ {
+/// A word of a call gets one of so many values at a time, for there are many calls with the same words.
+const PART: usize = 4;
+
+/// Every word with every value and with each bit turned over; a call's words with a part of them. Which part it is goes
+/// round from slot to slot, so that each field of a call gets them all; it begins with `first`.
+pub fn every_word(table: &Table, first: usize) -> impl Iterator<Item = Changed> + '_ {
     (0..WORDS).flat_map(move |word| {
         let old = words(table)[word];
         let flips = (0..32).map(move |bit| old ^ 1 << bit);
-        let values = VALUES.into_iter().chain(flips);
-        values.filter_map(move |value| change(table, word, value))
+        let values = VALUES.into_iter().chain(flips).enumerate();
+        let wanted = move |number: usize| match field(word) {
+            Field::Call(slot, _) => (number + slot + first).is_multiple_of(PART),
+            _ => true,
+        };
+        let values = values.filter(move |line| wanted(line.0));
+        values.filter_map(move |(_, value)| change(table, word, value))
     })
 }
 
@@ -123,11 +145,11 @@ pub fn every_word(table: &Table) -> impl Iterator<Item = Changed> + '_ {
 pub fn some_word(table: &Table, random: &mut Random) -> Option<Changed> {
     let mut word = random.below(WORDS);
     if random.chance(1, 2) {
-        let used: Vec<usize> = (0..64).filter(|&slot| is_used(table, slot)).collect();
+        let used = used(table);
         word = match random.below(4) {
-            0 => random.below(6),
-            1 if table.listed > 0 => 6 + random.below(23 * table.listed as usize),
-            _ if !used.is_empty() => 190 + 32 * random.pick(&used) + random.below(32),
+            0 => random.below(CUSTOMERS),
+            1 if table.listed > 0 => CUSTOMERS + random.below(CUSTOMER * table.listed as usize),
+            _ if !used.is_empty() => CALLS + CALL * random.pick(&used) + random.below(CALL),
             _ => word,
         };
     }
@@ -158,20 +180,25 @@ fn due(table: &Table, word: usize, value: u32) -> Due {
         Field::Epoch => Kept("word: any own epoch of 24 bits"),
         Field::Next => Kept("word: any next identifier"),
         Field::Listed => when(value > 8, "word: listed above 8"),
+        Field::Form if empty => Refused("word: form of the empty table"),
+        Field::Form => when(value == 0 || value > 2, "word: form 0 or above 2"),
+        Field::Occupied(part) if 32 * part >= total(table) => Refused("word: occupied bits outside the total"),
         Field::Occupied(_) => Refused("word: occupied bits"),
         Field::Customer(customer, _) if customer >= table.listed as usize => Refused("word: unused record not zeros"),
         Field::Customer(customer, of) => due_of_customer(table, customer, of, value),
+        Field::Call(slot, _) if slot >= total(table) => Refused("word: slot outside the total not zeros"),
         Field::Call(slot, _) if !is_used(table, slot) => Refused("word: free slot not zeros"),
         Field::Call(slot, of) => due_of_call(table, slot, of, value),
     }
 }
 
 fn due_of_customer(table: &Table, customer: usize, of: OfCustomer, value: u32) -> Due {
+    let total = total(table) as u32;
     let customer = &table.customers[customer];
     match of {
         OfCustomer::Address => Open,
         OfCustomer::Guarantee => when(value > customer.limit, "word: guarantee above the limit"),
-        OfCustomer::Limit => when(value == 0 || value > 64, "word: limit 0 or above 64"),
+        OfCustomer::Limit => when(value == 0 || value > total, "word: limit 0 or above the total"),
         OfCustomer::EndPoint(n) => when(!is_taken(&customer.places[n]), "word: customer's free place, end point"),
         OfCustomer::Place(n, of) => {
             let reasons = [
@@ -240,7 +267,7 @@ mod tests {
 
     #[test]
     fn of_the_empty_table() {
-        for changed in every_word(&EMPTY) {
+        for changed in every_word(&EMPTY, 0) {
             match changed.word {
                 2 => assert_eq!(changed.due, Kept("word: any next identifier")),
                 // None of the records listed would have a limit.
@@ -250,10 +277,26 @@ mod tests {
         }
     }
 
+    /// Each field of a call gets each value, in some slot.
+    #[test]
+    fn no_value_is_left_out() {
+        for first in 0..PART {
+            let mut seen = vec![false; CALL * VALUES.len()];
+            for changed in every_word(&EMPTY, first).filter(|changed| changed.word >= CALLS) {
+                if let Some(number) = VALUES.iter().position(|&one| one == changed.value) {
+                    seen[(changed.word - CALLS) % CALL * VALUES.len() + number] = true;
+                }
+            }
+            // Zero is what they had.
+            let lacking = seen.chunks(VALUES.len()).any(|values| values[1..].contains(&false));
+            assert!(!lacking);
+        }
+    }
+
     #[test]
     fn every_reason_is_announced() {
         let mut table = EMPTY;
-        table.listed = 7;
+        (table.listed, table.form) = (7, 2);
         table.customers[0].limit = 64;
         table.customers[0].places[1] = Place {
             taken: 1,
@@ -266,7 +309,7 @@ mod tests {
         table.calls[0].places[2] = table.customers[0].places[1];
         table.occupied[0] = 1;
         let mut seen: Vec<&str> = Vec::new();
-        for changed in every_word(&table).chain(every_word(&EMPTY)) {
+        for changed in every_word(&table, 0).chain(every_word(&EMPTY, 0)) {
             if let Refused(reason) | Kept(reason) = changed.due {
                 seen.push(reason);
             }

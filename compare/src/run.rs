@@ -4,7 +4,7 @@ use crate::both;
 use crate::breaks::{self, Break};
 use crate::captures;
 use crate::classes;
-use crate::coverage::SITUATIONS;
+use crate::coverage::situations;
 use crate::form;
 use crate::full::Full;
 use crate::near::NEAR_MISSES;
@@ -22,11 +22,11 @@ const ROSTERS: usize = 26_000;
 /// Numbers of the streams whose tables are changed word by word.
 const WORD_STREAMS: u64 = 1 << 32;
 
-/// How often the full table is broken in every way.
-const FULL_TABLES: usize = 100;
+/// How many full tables, by turns of form 1 and 2, are broken in every way.
+const FULL_TABLES: usize = 120;
 
 pub fn all(seed: u64, messages: u64, captured: Option<&str>) -> Result<Tally, String> {
-    let mut tally = Tally::new(SITUATIONS, &names(breaks::all()), &names(NEAR_MISSES.iter()));
+    let mut tally = Tally::new(&situations(), &names(breaks::all()), &names(NEAR_MISSES.iter()));
     let mut random = Random::of_part(seed, u64::MAX);
     rosters(seed, &mut random, &mut tally)?;
     streams(seed, messages, &mut tally)?;
@@ -55,7 +55,7 @@ fn rosters(seed: u64, random: &mut Random, tally: &mut Tally) -> Result<(), Stri
         if read != answer || due.is_some_and(|due| due != answer) {
             return Err(format!("{}\nboth answer {answer}, {read} due", place()));
         }
-        tally.roster(answer);
+        tally.roster(&bytes, answer);
     }
     Ok(())
 }
@@ -63,7 +63,7 @@ fn rosters(seed: u64, random: &mut Random, tally: &mut Tally) -> Result<(), Stri
 fn full_tables(seed: u64, random: &mut Random, tally: &mut Tally) -> Result<(), String> {
     for number in 0..FULL_TABLES {
         let place = |what| format!("seed {seed}, full table {number}, {what}");
-        let full = Full::new(random).map_err(place)?;
+        let full = Full::new(1 + number as u8 % 2, random).map_err(place)?;
         let mut trials = Trials {
             table: &full.full.first,
             values: &full.values,
@@ -76,30 +76,33 @@ fn full_tables(seed: u64, random: &mut Random, tally: &mut Tally) -> Result<(), 
     Ok(())
 }
 
-/// Every word with every value: of the empty table and a fresh one, both twice, for they have little of some kinds; of
-/// two with calls, connections and free places; of a full one.
+/// Every word: of the empty table, twice, for no other has some kinds; of each form of a fresh one, of one with calls,
+/// connections and free places, of a full one.
 fn every_word(seed: u64, random: &mut Random, tally: &mut Tally) -> Result<(), String> {
     for _ in 0..2 {
         words_of(seed, 0, |table| table.listed == 0, tally)?;
-        words_of(seed, 0, |table| (1..8).contains(&table.listed), tally)?;
     }
-    for calls in [8..24, 24..56] {
+    for form in [1, 2] {
+        words_of(seed, 0, |table| table.form == form && table.listed < 8, tally)?;
+        let total = tables::total(&Table { form, ..Table::EMPTY });
         let mixed = |table: &Table| {
             let held = tables::held(table);
             let standalone = held.iter().filter(|held| held.call == 0).count();
-            (2..8).contains(&table.listed) && calls.contains(&tables::used(table).len()) && standalone > 1
+            let calls = tables::used(table).len();
+            table.form == form && table.listed < 8 && (total / 4..total).contains(&calls) && standalone > 1
         };
-        words_of(seed, 300, mixed, tally)?;
+        words_of(seed, 4 * total as u64, mixed, tally)?;
+        let full = Full::new(form as u8, random)?;
+        let mut trials = Trials {
+            table: &full.full.first,
+            values: &full.values,
+            random,
+            tally,
+        };
+        let tried = trials.every_word();
+        tried.map_err(|what| format!("seed {seed}, full table, {what}\nroster {}", hex(&full.roster)))?;
     }
-    let full = Full::new(random)?;
-    let mut trials = Trials {
-        table: &full.full.first,
-        values: &full.values,
-        random,
-        tally,
-    };
-    let tried = trials.every_word();
-    tried.map_err(|what| format!("seed {seed}, full table, {what}\nroster {}", hex(&full.roster)))
+    Ok(())
 }
 
 /// Every word of the first table that a stream of this many messages leads to and that is wanted.
@@ -119,8 +122,9 @@ fn streams(seed: u64, messages: u64, tally: &mut Tally) -> Result<(), String> {
     let mut left = messages;
     while left > 0 {
         number += 1;
-        let steps = left.min(Random::of_part(!seed, number).between(100, 700) as u64);
-        Stream::new(seed, number, tally)?.run(steps, tally)?;
+        let mut stream = Stream::new(seed, number, tally)?;
+        let steps = left.min(stream.length());
+        stream.run(steps, tally)?;
         left -= steps;
     }
     Ok(())
@@ -133,7 +137,7 @@ mod tests {
     /// With the second program in the first one's place it is the yardstick that is tried.
     #[test]
     fn a_short_run() {
-        let mut tally = Tally::new(SITUATIONS, &names(breaks::all()), &names(NEAR_MISSES.iter()));
+        let mut tally = Tally::new(&situations(), &names(breaks::all()), &names(NEAR_MISSES.iter()));
         streams(1, 4000, &mut tally).unwrap();
         assert!(tally.broken_total() > 500 && tally.word_total() > 500);
     }

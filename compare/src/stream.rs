@@ -3,7 +3,8 @@
 
 use crate::both;
 use crate::coverage::{self, Step};
-use crate::intent::{Mode, FILL, MODES};
+use crate::form;
+use crate::intent::{Mode, FILL, FILL_SOON, MODES};
 use crate::ledger::Ledger;
 use crate::random::Random;
 use crate::rosters::{self, Shape, SHAPES};
@@ -14,9 +15,13 @@ use crate::values::Values;
 use second::table::Table;
 use second::Node;
 
+/// Form 2 has the larger tables, which take the longer.
+const FORMS: [(usize, u8); 2] = [(3, 1), (2, 2)];
+
 pub struct Stream {
     name: String,
     random: Random,
+    form: u8,
     shape: Shape,
     roster: Vec<u8>,
     values: Values,
@@ -34,12 +39,13 @@ impl Stream {
     pub fn new(seed: u64, number: u64, tally: &mut Tally) -> Result<Stream, String> {
         let mut random = Random::of_part(seed, number);
         let name = format!("seed {seed}, stream {number}");
+        let form = random.weighted(&FORMS);
         let shape = random.weighted(&SHAPES);
-        let roster = rosters::shaped(shape, &mut random);
+        let roster = rosters::shaped(form, shape, &mut random);
         let bytes = roster.bytes();
         let (answer, mut first, mut second) =
             both::roster(&bytes, &mut random).map_err(|what| format!("{name}, roster {}: {what}", hex(&bytes)))?;
-        tally.roster(answer);
+        tally.roster(&bytes, answer);
         let next = match random.below(2) {
             0 => 1,
             _ => 0u32.wrapping_sub(random.below(200) as u32),
@@ -48,6 +54,7 @@ impl Stream {
         let node = Node::from_table(&second).ok_or(format!("{name}: no node of a fresh table"))?;
         Ok(Stream {
             name,
+            form,
             shape,
             values: Values::new(&roster, &mut random),
             ledger: (answer == 0).then(|| Ledger::new(&bytes)),
@@ -56,15 +63,22 @@ impl Stream {
             second,
             node,
             next,
-            mode: FILL,
+            mode: random.weighted(&[(1, FILL), (form.into(), FILL_SOON)]),
             trouble: 10,
             random,
         })
     }
 
-    /// Runs this many messages.
+    /// How many messages a stream has: more where there are more calls to fill the table with.
+    pub fn length(&mut self) -> u64 {
+        let total = form::total(self.form);
+        self.random.between(100 + total, 500 + 3 * total) as u64
+    }
+
+    /// Runs this many messages. The first ones fill the table.
     pub fn run(&mut self, steps: u64, tally: &mut Tally) -> Result<(), String> {
-        let mut stretch = self.random.between(60, 200);
+        let total = form::total(self.form);
+        let mut stretch = self.random.between(total, 2 * total);
         for step in 1..=steps {
             if stretch == 0 {
                 self.mode = self.random.weighted(&MODES);
@@ -106,9 +120,10 @@ impl Stream {
             seen = Some((fed, calls));
         }
         tally.message(done.answer, buffer);
-        let (shape, before) = (self.shape, &self.first);
+        let (form, shape, before) = (self.form, self.shape, &self.first);
         coverage::note(
             &Step {
+                form,
                 shape,
                 before,
                 made,
@@ -118,7 +133,7 @@ impl Stream {
             },
             tally,
         );
-        (self.first, self.second) = (done.first, done.second);
+        (self.first, self.second) = (*done.first, *done.second);
         Ok(())
     }
 

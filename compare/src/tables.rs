@@ -1,7 +1,8 @@
 //! Plain looks at a table, for the generator and for the functions that break tables.
 
 use crate::build::Connection;
-use crate::form::long_id;
+use crate::form::{self, long_id};
+use crate::layout::SLOTS;
 use crate::random::Random;
 use second::table::{Call, Customer, Place, Table};
 
@@ -39,9 +40,10 @@ pub const EMPTY: Table = Table {
     epoch: 0,
     next: 1,
     listed: 0,
-    occupied: [0; 2],
+    form: 0,
+    occupied: [0; 8],
     customers: [UNUSED; 8],
-    calls: [FREE_CALL; 64],
+    calls: [FREE_CALL; SLOTS],
 };
 
 /// A connection as the table holds it, with the Call ID that it stands under.
@@ -51,37 +53,35 @@ pub struct Held {
     pub call: u16,
 }
 
-/// The used slots, a bit each.
-pub fn occupied(table: &Table) -> u64 {
-    u64::from(table.occupied[1]) << 32 | u64::from(table.occupied[0])
+/// The total of the table's roster.
+pub fn total(table: &Table) -> usize {
+    form::total(table.form as u8)
 }
 
-pub fn set_occupied(table: &mut Table, slots: u64) {
-    table.occupied = [slots as u32, (slots >> 32) as u32];
-}
-
+/// Whether a bit is set; some have no slot.
 pub fn is_used(table: &Table, slot: usize) -> bool {
-    occupied(table) >> slot & 1 == 1
+    table.occupied[slot / 32] >> (slot % 32) & 1 == 1
 }
 
 /// Marks a slot as used, or as free.
 pub fn set_used(table: &mut Table, slot: usize, used: bool) {
-    let slots = occupied(table) & !(1 << slot);
-    set_occupied(table, slots | u64::from(used) << slot);
+    let bit = 1 << (slot % 32);
+    let part = &mut table.occupied[slot / 32];
+    *part = if used { *part | bit } else { *part & !bit };
 }
 
 /// The used slots' numbers.
 pub fn used(table: &Table) -> Vec<usize> {
-    (0..64).filter(|&slot| is_used(table, slot)).collect()
+    (0..SLOTS).filter(|&slot| is_used(table, slot)).collect()
 }
 
-/// The free slots' numbers.
+/// The numbers of the total's free slots.
 pub fn free(table: &Table) -> Vec<usize> {
-    (0..64).filter(|&slot| !is_used(table, slot)).collect()
+    (0..total(table)).filter(|&slot| !is_used(table, slot)).collect()
 }
 
 pub fn calls(table: &Table) -> impl Iterator<Item = &Call> {
-    (0..64)
+    (0..SLOTS)
         .filter(|&slot| is_used(table, slot))
         .map(|slot| &table.calls[slot])
 }

@@ -20,6 +20,18 @@ use second::Node;
 const CHANGES: usize = 60;
 const WORDS: usize = 60;
 
+/// Messages that are sent in turns to a table whose words are changed one by one.
+const LETTERS: usize = 400;
+
+/// A buffer that the largest checkpoint of a table fits into.
+const CHECKPOINT: usize = 26_000;
+
+/// A message, and the length of the buffer that comes with it.
+struct Letter {
+    message: Vec<u8>,
+    buffer: usize,
+}
+
 pub struct Trials<'a> {
     /// A table that breaks no rule.
     pub table: &'a Table,
@@ -45,41 +57,46 @@ impl Trials<'_> {
         }
         for _ in 0..WORDS {
             if let Some(changed) = outside::some_word(self.table, self.random) {
-                self.word(&changed)?;
+                let letter = self.letter();
+                self.word(&changed, &letter)?;
             }
         }
         Ok(())
     }
 
-    /// Every word of the table with every value.
+    /// Every word of the table with values of every kind.
     pub fn every_word(&mut self) -> Result<(), String> {
         let table = self.table;
-        outside::every_word(table).try_for_each(|changed| self.word(&changed))
+        let letters: Vec<Letter> = (0..LETTERS).map(|_| self.letter()).collect();
+        let first = self.random.below(LETTERS);
+        let mut changes = outside::every_word(table, first).zip(letters.iter().cycle());
+        changes.try_for_each(|(changed, letter)| self.word(&changed, letter))
     }
 
     /// One word changed: what is certainly outside its field is answered 1, and the rest alike by both.
-    fn word(&mut self, changed: &Changed) -> Result<(), String> {
-        let Changed { table, word, due } = changed;
+    fn word(&mut self, changed: &Changed, letter: &Letter) -> Result<(), String> {
+        let Changed { word, value, due } = *changed;
+        let table = changed.of(self.table);
         let place = |what| {
-            let (old, new) = (words(self.table)[*word], words(table)[*word]);
-            format!("word {word} ({:?}) {old} set to {new}, {due:?}: {what}", field(*word))
+            let old = words(self.table)[word];
+            format!("word {word} ({:?}) {old} set to {value}, {due:?}: {what}", field(word))
         };
-        let done = self.compare(table).map_err(place)?;
+        let done = self.send(&table, letter).map_err(place)?;
         let refused = done.answer == 1;
         if refused {
-            untouched(&done, table).map_err(place)?;
+            untouched(&done, &table).map_err(place)?;
         }
         if matches!(due, Due::Refused(_)) && !refused || matches!(due, Due::Kept(_)) && refused {
             return Err(place(format!("both answer {}", done.answer)));
         }
         // The rule check before a checkpoint is written is the same.
         if self.random.chance(1, 16) {
-            let (answer, _) = checkpoints::both::write(table, 10_000, self.random).map_err(place)?;
+            let (answer, _) = checkpoints::both::write(&table, CHECKPOINT, self.random).map_err(place)?;
             if (answer == 1) != refused {
                 return Err(place(format!("both answer {}, writing {answer}", done.answer)));
             }
         }
-        self.tally.word(*word, *due, refused);
+        self.tally.word(word, due, refused);
         Ok(())
     }
 
@@ -93,7 +110,7 @@ impl Trials<'_> {
             return Err(format!("both answer {}, not 1", done.answer));
         }
         untouched(&done, &table)?;
-        self.tally.breaking(name);
+        self.tally.breaking(self.table.form, name);
         Ok(())
     }
 
@@ -105,7 +122,7 @@ impl Trials<'_> {
         if self.compare(&table)?.answer == 1 {
             return Err("both answer 1".into());
         }
-        self.tally.near_miss(name);
+        self.tally.near_miss(self.table.form, name);
         Ok(())
     }
 
@@ -118,19 +135,30 @@ impl Trials<'_> {
         Ok(())
     }
 
-    /// A message for the table as it was, mostly of good form, to both programs with the changed table.
+    /// A message for the table as it was, mostly of good form.
+    fn letter(&mut self) -> Letter {
+        let (values, random) = (self.values, &mut *self.random);
+        if random.chance(3, 4) {
+            let message = source::sound_message(values, self.table, random);
+            let buffer = random.between(128, 300);
+            return Letter { message, buffer };
+        }
+        let message = source::message(CHURN, 60, values, self.table, random, self.tally).bytes;
+        let buffer = source::buffer_length(random);
+        Letter { message, buffer }
+    }
+
+    /// A message to both programs with the changed table.
+    fn send(&mut self, table: &Table, letter: &Letter) -> Result<Done, String> {
+        let Letter { message, buffer } = letter;
+        both::message((table, table), message, *buffer, self.random)
+            .map_err(|what| format!("{what}\nbuffer {buffer}\nmessage {}", hex(message)))
+    }
+
+    /// The same with a message of its own, and the second program's rule check by itself.
     fn compare(&mut self, table: &Table) -> Result<Done, String> {
-        let sound = self.random.chance(3, 4);
-        let (message, buffer) = if sound {
-            let message = source::sound_message(self.values, self.table, self.random);
-            (message, self.random.between(128, 300))
-        } else {
-            let (values, random, tally) = (self.values, &mut *self.random, &mut *self.tally);
-            let made = source::message(CHURN, 60, values, self.table, random, tally);
-            (made.bytes, source::buffer_length(random))
-        };
-        let done = both::message((table, table), &message, buffer, self.random)
-            .map_err(|what| format!("{what}\nbuffer {buffer}\nmessage {}", hex(&message)))?;
+        let letter = self.letter();
+        let done = self.send(table, &letter)?;
         if Node::from_table(table).is_none() != (done.answer == 1) {
             return Err(format!(
                 "both answer {}, the second's rule check says otherwise",

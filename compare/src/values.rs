@@ -18,10 +18,16 @@ pub struct Values {
 
 impl Values {
     pub fn new(roster: &Roster, random: &mut Random) -> Values {
-        let senders: Vec<u32> = roster.records.iter().map(|record| record.address).collect();
+        let mut senders: Vec<u32> = roster.records.iter().map(|record| record.address).collect();
         let endpoints = endpoints(roster, &senders, random);
-        let count = *random.pick(&[3, 6, 40, 40, 40]);
+        // Mostly enough for all calls of the total.
+        let many = 40.max(roster.total() * 3 / 5);
+        let count = *random.pick(&[3, 6, many, many, many]);
         let ids = ids(count, random);
+        // Sometimes one customer sends most, so that it comes to its limit before the others.
+        if random.chance(1, 3) {
+            senders.extend([senders[0]; 12]);
+        }
         Values {
             unlisted: unlisted(&senders, &endpoints, random),
             tunnels: vec![0, ids[0], ids[1]],

@@ -11,7 +11,7 @@ mod table;
 use table::Table;
 
 /// A table as its words.
-pub type Words = [u32; 2238];
+pub type Words = [u32; 6597];
 
 /// Handles a message: the answer, and the reply's length or 0. The table is changed in place.
 #[inline(never)]

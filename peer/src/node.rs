@@ -2,7 +2,7 @@
 
 use crate::message::{be16, be32, read, sum, Kind, Objects, Read};
 use crate::rules::{check, Counts};
-use crate::table::{pair_of, Call, Customer, Place, Table, CALLS};
+use crate::table::{pair_of, Call, Customer, Place, Table, CALLS, TOTALS};
 
 /// The answer and the reply's length.
 #[inline(always)]
@@ -55,12 +55,26 @@ fn customer(table: &Table, address: u32) -> usize {
     listed.iter().position(|one| one.address == address).unwrap_or(8)
 }
 
+/// The roster's total, for a table that keeps the rules.
+#[inline(always)]
+fn total(table: &Table) -> usize {
+    TOTALS[table.form as usize] as usize
+}
+
+/// The lowest free slot, for a table that has one.
+#[inline(always)]
+fn lowest_free(table: &Table) -> usize {
+    let full = |w: &usize| table.occupied[*w] == u32::MAX;
+    let word = (0..7).take_while(full).count();
+    32 * word + table.occupied[word].trailing_ones() as usize
+}
+
 /// Each open call of the pair, until one is enough.
 #[inline(always)]
 fn calls_of(table: &Table, pair: u64, mut enough: impl FnMut(usize, &Call) -> bool) {
-    let used = table.used();
-    for (i, call) in table.calls.iter().enumerate() {
-        if call.pair() == pair && used >> i & 1 == 1 && enough(i, call) {
+    // No call stands behind the total, and what is free there has no pair to compare.
+    for (i, call) in table.calls[..total(table)].iter().enumerate() {
+        if call.pair() == pair && table.is_used(i) && enough(i, call) {
             return;
         }
     }
@@ -98,10 +112,10 @@ fn open(table: &mut Table, counts: &Counts, k: usize, pair: u64, id: u32, name: 
         return (30, 0x0020_0001);
     }
     let (count, one) = (u32::from(counts.calls[k]), &table.customers[k]);
-    if count == one.limit || count >= one.guarantee && counts.sum == CALLS as u32 {
+    if count == one.limit || count >= one.guarantee && counts.sum as usize == total(table) {
         return (34, 0x0002_0000);
     }
-    let slot = table.used().trailing_ones() as usize;
+    let slot = lowest_free(table);
     table.occupied[slot / 32] |= 1 << (slot % 32);
     let call = &mut table.calls[slot];
     // The rest of a free slot is zeros already.

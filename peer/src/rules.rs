@@ -1,8 +1,8 @@
 //! Answer 1: every table rule in one pass over the table. Keys (pair and short ID, pair and name, connections) go into
 //! small hash chains on the stack; what met something in its chain is compared exactly afterwards. A table made so that
-//! chains grow long is sorted instead.
+//! chains grow long is sorted instead. A table of few calls gets fewer chains, for they are zeroed every time.
 
-use crate::table::{pair_of, Call, Customer, Table, CALLS};
+use crate::table::{pair_of, Call, Customer, Place, Table, CALLS, TOTALS};
 use std::mem::MaybeUninit;
 
 /// What the pass counted, for the share rule.
@@ -11,9 +11,8 @@ pub struct Counts {
     pub sum: u32,
 }
 
-/// Chains for connections and for IDs: powers of two.
-const CONNECTION_HEADS: usize = 2048;
-const ID_HEADS: usize = 256;
+/// Up to so many calls are few: all that a roster of form 1 has.
+const FEW: u32 = TOTALS[1];
 /// Keys are numbered from 1.
 const CONNECTION_KEYS: usize = 4 * CALLS + 4 * 8 + 1;
 const ID_KEYS: usize = CALLS + 1;
@@ -45,22 +44,26 @@ unsafe fn word(bytes: *const u8, at: usize) -> u64 {
     bytes.add(at).cast::<u64>().read_unaligned()
 }
 
+/// Whether all of these calls are zeros. Eight words go beside each other, so that none waits for the one before it.
 #[inline(always)]
-fn call_is_zero(call: &Call) -> bool {
-    let bytes = (call as *const Call).cast::<u8>();
-    let mut any = 0;
-    for at in (0..size_of::<Call>()).step_by(8) {
-        // SAFETY: a call is a whole number of such words.
-        any |= unsafe { word(bytes, at) };
+fn are_zeros(calls: &[Call]) -> bool {
+    const PARTS: usize = size_of::<Call>() / 8;
+    let mut any = [0u64; 8];
+    for call in calls {
+        let bytes = (call as *const Call).cast::<u8>();
+        for part in 0..PARTS {
+            // SAFETY: a call is a whole number of such words.
+            any[part % 8] |= unsafe { word(bytes, 8 * part) };
+        }
     }
-    any == 0
+    any.iter().fold(0, |any, one| any | one) == 0
 }
 
-/// Chains: `head[h]` is the last key put there, from 1; `next[key]` the one before it; `met` has the keys that were put
-/// behind another.
+/// Chains: `head[h]` is the last key put there, from 1; `next[key]` the one before it, 0 for none; `met` has the keys
+/// that were put behind another.
 struct Chains<const HEADS: usize, const KEYS: usize> {
     head: [u16; HEADS],
-    next: [u16; KEYS],
+    next: MaybeUninit<[u16; KEYS]>,
     met: MaybeUninit<[u16; KEYS]>,
     count: usize,
 }
@@ -73,7 +76,7 @@ impl<const HEADS: usize, const KEYS: usize> Chains<HEADS, KEYS> {
     fn new() -> Self {
         Chains {
             head: [0; HEADS],
-            next: [0; KEYS],
+            next: MaybeUninit::uninit(),
             met: MaybeUninit::uninit(),
             count: 0,
         }
@@ -86,8 +89,8 @@ impl<const HEADS: usize, const KEYS: usize> Chains<HEADS, KEYS> {
         let head = self.head.as_mut_ptr().add((hash >> Self::SHIFT) as usize);
         let before = *head;
         *head = key as u16;
+        *self.next.as_mut_ptr().cast::<u16>().add(key) = before;
         if before != 0 {
-            *self.next.as_mut_ptr().add(key) = before;
             *self.met.as_mut_ptr().cast::<u16>().add(self.count) = key as u16;
             self.count += 1;
         }
@@ -97,7 +100,7 @@ impl<const HEADS: usize, const KEYS: usize> Chains<HEADS, KEYS> {
     #[inline(always)]
     fn twice(&self, budget: usize, same: impl Fn(usize, usize) -> bool) -> Option<bool> {
         let mut left = budget;
-        let next = self.next.as_ptr();
+        let next = self.next.as_ptr().cast::<u16>();
         for i in 0..self.count {
             // SAFETY: the first `count` of `met` are keys that were put, and so is what `next` leads to.
             let key = usize::from(unsafe { *self.met.as_ptr().cast::<u16>().add(i) });
@@ -139,22 +142,23 @@ fn equal(addresses: &[u32; 8], sender: u32) -> u32 {
     }
 }
 
-/// The roster's own rules: how many are listed and their addresses, or None where one is broken.
+/// The roster's own rules: how many are listed, their addresses and their total, or None where one is broken.
 #[inline(always)]
-fn roster(table: &Table) -> Option<(usize, [u32; 8])> {
+fn roster(table: &Table) -> Option<(usize, [u32; 8], u32)> {
     let listed = table.listed as usize;
     if listed == 0 {
-        if table.address != 0 || table.epoch != 0 {
+        if table.address != 0 || table.epoch != 0 || table.form != 0 {
             return None;
         }
-    } else if listed > 8 || table.epoch >= 1 << 24 {
+    } else if listed > 8 || table.epoch >= 1 << 24 || table.form == 0 {
         return None;
     }
+    let total = *TOTALS.get(table.form as usize)?;
     let mut addresses = [0; 8];
     let (mut sum, mut bad) = (0u32, false);
     for (k, customer) in table.customers.iter().enumerate() {
         if k < listed {
-            bad |= customer.limit == 0 || customer.limit > CALLS as u32 || customer.guarantee > customer.limit;
+            bad |= customer.limit == 0 || customer.limit > total || customer.guarantee > customer.limit;
             sum = sum.wrapping_add(customer.guarantee);
             // Those past k are zero and are masked away.
             bad |= equal(&addresses, customer.address) & ((1 << k) - 1) != 0;
@@ -163,7 +167,19 @@ fn roster(table: &Table) -> Option<(usize, [u32; 8])> {
             bad |= customer.address | customer.guarantee | customer.limit != 0;
         }
     }
-    (!bad && sum <= CALLS as u32).then_some((listed, addresses))
+    (!bad && sum <= total).then_some((listed, addresses, total))
+}
+
+/// How many slots are used, or None where one outside the total is.
+#[inline(always)]
+fn used_slots(table: &Table, total: u32) -> Option<u32> {
+    let (mut count, mut outside) = (0, 0);
+    for (w, &bits) in table.occupied.iter().enumerate() {
+        let inside = total.saturating_sub(32 * w as u32).min(32);
+        outside |= (u64::from(bits) >> inside) as u32;
+        count += bits.count_ones();
+    }
+    (outside == 0).then_some(count)
 }
 
 /// Bits that neither a connection nor a free place has, in the two halves of a place.
@@ -186,104 +202,154 @@ fn connection(table: &Table, key: usize) -> (u64, u64) {
 /// All rules; None where one is broken.
 #[inline(always)]
 pub fn check(table: &Table) -> Option<Counts> {
-    let (listed, addresses) = roster(table)?;
-    let mask = (1u32 << listed) - 1;
-    let used = table.used();
-    let mut shorts = Chains::<ID_HEADS, ID_KEYS>::new();
-    let mut longs = Chains::<ID_HEADS, ID_KEYS>::new();
-    let mut connections = Chains::<CONNECTION_HEADS, CONNECTION_KEYS>::new();
-    let mut calls = [0u16; 9];
-    // What no rule allows, and all bits of all places.
-    let (mut bad, mut halves) = (0u64, (0u64, 0u64));
-    for (i, call) in table.calls.iter().enumerate() {
-        if used >> i & 1 == 0 {
-            if !call_is_zero(call) {
-                return None;
+    let (listed, addresses, total) = roster(table)?;
+    match used_slots(table, total)? {
+        0..=FEW => Pass::<2048, 256>::check(table, listed, &addresses, total),
+        _ => Pass::<4096, 1024>::check(table, listed, &addresses, total),
+    }
+}
+
+/// One pass over calls and connections, with so many chains for connections and for IDs: powers of two.
+struct Pass<const HEADS: usize, const IDS: usize> {
+    shorts: Chains<IDS, ID_KEYS>,
+    longs: Chains<IDS, ID_KEYS>,
+    connections: Chains<HEADS, CONNECTION_KEYS>,
+    /// By customer, and those of none.
+    calls: [u16; 9],
+}
+
+/// Bits put together over the whole table. They stand apart from the chains, so that they stay in registers.
+#[derive(Default)]
+struct Bits {
+    /// What no rule allows.
+    bad: u64,
+    /// All bits of all places.
+    low: u64,
+    high: u64,
+}
+
+impl<const HEADS: usize, const IDS: usize> Pass<HEADS, IDS> {
+    #[inline(never)]
+    fn check(table: &Table, listed: usize, addresses: &[u32; 8], total: u32) -> Option<Counts> {
+        let mut pass = Self {
+            shorts: Chains::new(),
+            longs: Chains::new(),
+            connections: Chains::new(),
+            calls: [0; 9],
+        };
+        let mut bits = Bits::default();
+        let mask = (1u32 << listed) - 1;
+        for (w, calls) in table.calls.chunks(64).enumerate() {
+            let used = table.used(w);
+            if used == 0 {
+                bits.bad |= u64::from(!are_zeros(calls));
+                continue;
             }
-            continue;
+            for (i, call) in calls.iter().enumerate() {
+                if used >> i & 1 == 0 {
+                    bits.bad |= u64::from(!are_zeros(std::slice::from_ref(call)));
+                } else {
+                    pass.call(&mut bits, 64 * w + i, call, equal(addresses, call.sender) & mask)?;
+                }
+            }
         }
+        pass.standalone(&mut bits, table, listed);
+        let excess = bits.low & EXCESS.0 | bits.high & EXCESS.1;
+        if bits.bad | excess != 0 || pass.calls[8] != 0 {
+            return None;
+        }
+        let sum = share_sum(&table.customers[..listed], &pass.calls, total)?;
+        if pass.twice(table) {
+            return None;
+        }
+        let mut counted = [0; 8];
+        counted.copy_from_slice(&pass.calls[..8]);
+        Some(Counts { calls: counted, sum })
+    }
+
+    /// A used slot, and which customer's it is, a bit.
+    #[inline(always)]
+    fn call(&mut self, bits: &mut Bits, slot: usize, call: &Call, known: u32) -> Option<()> {
         let size = call.size as usize;
         if size.wrapping_sub(1) >= 32 || call.id.wrapping_sub(1) >= 0xffff {
             return None;
         }
-        bad |= u64::from(call.refreshed | call.epoch | call.identifier | call.made);
-        bad |= u64::from(call.name[size - 1] == 0);
+        bits.bad |= u64::from(call.refreshed | call.epoch | call.identifier | call.made);
+        bits.bad |= u64::from(call.name[size - 1] == 0);
         // SAFETY: all reads lie within the name or, the size being 1 to 32, within PAST.
         let name = unsafe {
             let (name, past) = (call.name.as_ptr(), PAST.as_ptr().add(32 - size));
             let words = [word(name, 0), word(name, 8), word(name, 16), word(name, 24)];
-            bad |= words[0] & word(past, 0) | words[1] & word(past, 8);
-            bad |= words[2] & word(past, 16) | words[3] & word(past, 24);
+            bits.bad |= words[0] & word(past, 0) | words[1] & word(past, 8);
+            bits.bad |= words[2] & word(past, 16) | words[3] & word(past, 24);
             words
         };
-        let known = equal(&addresses, call.sender) & mask;
-        calls[(known | 0x100).trailing_zeros() as usize] += 1;
+        self.calls[(known | 0x100).trailing_zeros() as usize] += 1;
         let base = mix(call.pair() ^ K0, K1);
         let short = (base ^ u64::from(call.id)).wrapping_mul(K2);
         let long = mix(name[0] ^ base, name[1] ^ K2) ^ mix(name[2] ^ K3 ^ size as u64, name[3] ^ base);
         // SAFETY: each slot is visited once.
         unsafe {
-            shorts.put(short, i + 1);
-            longs.put(long.wrapping_mul(K0), i + 1);
+            self.shorts.put(short, slot + 1);
+            self.longs.put(long.wrapping_mul(K0), slot + 1);
         }
         for (j, place) in call.places.iter().enumerate() {
-            let (low, high) = place.halves();
-            halves = (halves.0 | low, halves.1 | high);
-            if low as u32 != 0 {
-                let hash = (place.number() ^ base).wrapping_mul(K3);
-                // SAFETY: each place is visited once.
-                unsafe { connections.put(hash, 4 * i + j + 1) };
-            } else {
-                bad |= low | high;
-            }
+            self.place(bits, place, base, 4 * slot + j + 1);
+        }
+        Some(())
+    }
+
+    /// A place, for which the pair was hashed.
+    #[inline(always)]
+    fn place(&mut self, bits: &mut Bits, place: &Place, base: u64, key: usize) {
+        let (low, high) = place.halves();
+        (bits.low, bits.high) = (bits.low | low, bits.high | high);
+        if low as u32 != 0 {
+            let hash = (place.number() ^ base).wrapping_mul(K3);
+            // SAFETY: each place is visited once.
+            unsafe { self.connections.put(hash, key) };
+        } else {
+            bits.bad |= low | high;
         }
     }
-    for (k, customer) in table.customers.iter().enumerate() {
-        for (j, place) in customer.places.iter().enumerate() {
-            let (low, high) = place.halves();
-            halves = (halves.0 | low, halves.1 | high);
-            if low as u32 != 0 {
-                if k >= listed {
-                    return None;
-                }
+
+    /// The customers' places.
+    #[inline(always)]
+    fn standalone(&mut self, bits: &mut Bits, table: &Table, listed: usize) {
+        for (k, customer) in table.customers.iter().enumerate() {
+            for (j, place) in customer.places.iter().enumerate() {
+                let (taken, endpoint) = (place.taken != 0, u64::from(customer.endpoints[j]));
+                bits.bad |= if taken { u64::from(k >= listed) } else { endpoint };
                 let base = mix(pair_of(customer.endpoints[j], customer.address) ^ K0, K1);
-                let hash = (place.number() ^ base).wrapping_mul(K3);
-                // SAFETY: each place is visited once.
-                unsafe { connections.put(hash, 4 * CALLS + 4 * k + j + 1) };
-            } else {
-                bad |= low | high | u64::from(customer.endpoints[j]);
+                self.place(bits, place, base, 4 * CALLS + 4 * k + j + 1);
             }
         }
     }
-    bad |= halves.0 & EXCESS.0 | halves.1 & EXCESS.1;
-    if bad != 0 || calls[8] != 0 {
-        return None;
+
+    /// Whether anything stands twice.
+    #[inline(always)]
+    fn twice(&self, table: &Table) -> bool {
+        let calls = |a: usize, b: usize| (&table.calls[a - 1], &table.calls[b - 1]);
+        let shorts = self.shorts.twice(4 * CALLS, |a, b| {
+            let (one, other) = calls(a, b);
+            one.id == other.id && one.pair() == other.pair()
+        });
+        let longs = self.longs.twice(4 * CALLS, |a, b| {
+            let (one, other) = calls(a, b);
+            one.size == other.size && one.pair() == other.pair() && one.name == other.name
+        });
+        let same = |a, b| connection(table, a) == connection(table, b);
+        let connections = self.connections.twice(8 * CALLS, same);
+        match (shorts, longs, connections) {
+            (Some(short), Some(long), Some(connection)) => short | long | connection,
+            _ => sorted_twice(table),
+        }
     }
-    let sum = share_sum(&table.customers[..listed], &calls)?;
-    let shorts = shorts.twice(4 * CALLS, |a, b| {
-        let (one, other) = (&table.calls[a - 1], &table.calls[b - 1]);
-        one.id == other.id && one.pair() == other.pair()
-    });
-    let longs = longs.twice(4 * CALLS, |a, b| {
-        let (one, other) = (&table.calls[a - 1], &table.calls[b - 1]);
-        one.size == other.size && one.pair() == other.pair() && one.name == other.name
-    });
-    let connections = connections.twice(8 * CALLS, |a, b| connection(table, a) == connection(table, b));
-    let twice = match (shorts, longs, connections) {
-        (Some(short), Some(long), Some(connection)) => short | long | connection,
-        _ => sorted_twice(table),
-    };
-    if twice {
-        return None;
-    }
-    let mut counted = [0; 8];
-    counted.copy_from_slice(&calls[..8]);
-    Some(Counts { calls: counted, sum })
 }
 
 /// S; None where a customer is above its limit, or S above the total.
 #[inline(always)]
-fn share_sum(customers: &[Customer], calls: &[u16; 9]) -> Option<u32> {
+fn share_sum(customers: &[Customer], calls: &[u16; 9], total: u32) -> Option<u32> {
     let mut sum = 0;
     for (customer, &count) in customers.iter().zip(calls) {
         let count = u32::from(count);
@@ -292,7 +358,7 @@ fn share_sum(customers: &[Customer], calls: &[u16; 9]) -> Option<u32> {
         }
         sum += count.max(customer.guarantee);
     }
-    (sum <= CALLS as u32).then_some(sum)
+    (sum <= total).then_some(sum)
 }
 
 /// Whether anything stands twice, by sorting: for tables whose keys were made to meet in few chains.
@@ -304,7 +370,7 @@ fn sorted_twice(table: &Table) -> bool {
     let mut connections = [(0u64, 0u64); CONNECTION_KEYS];
     let (mut n, mut m) = (0, 0);
     for (i, call) in table.calls.iter().enumerate() {
-        if table.used() >> i & 1 == 0 {
+        if !table.is_used(i) {
             continue;
         }
         ids[n] = (call.pair(), call.id);
@@ -337,7 +403,6 @@ fn beside<T: PartialEq>(sorted: &[T]) -> bool {
 #[cfg(test)]
 mod tests {
     use super::*;
-    use crate::table::Place;
     use crate::{rules_hold, Words};
 
     /// The x with x * k = 1.
@@ -349,14 +414,15 @@ mod tests {
         x
     }
 
-    /// A full table of one pair whose 256 connections all meet in one chain.
-    fn all_meet() -> Words {
-        let mut words = [0; 2238];
+    /// A full table of one pair, of this form, whose connections all meet in one chain.
+    fn all_meet(form: u32) -> Words {
+        let total = TOTALS[form as usize];
+        let mut words = [0; 6597];
         let table = Table::of_mut(&mut words);
-        (table.address, table.epoch, table.next, table.listed) = (9, 7, 1, 1);
-        (table.customers[0].address, table.customers[0].limit) = (5, 64);
-        table.occupied = [u32::MAX; 2];
-        for (i, call) in table.calls.iter_mut().enumerate() {
+        (table.address, table.epoch, table.next, table.listed, table.form) = (9, 7, 1, 1, form);
+        (table.customers[0].address, table.customers[0].limit) = (5, total);
+        for (i, call) in table.calls[..total as usize].iter_mut().enumerate() {
+            table.occupied[i / 32] |= 1 << (i % 32);
             (call.endpoint, call.sender) = (6, 5);
             (call.id, call.size, call.name[0]) = (1 + i as u32, 1, 1 + i as u8);
             let base = mix(call.pair() ^ K0, K1);
@@ -373,24 +439,24 @@ mod tests {
 
     #[test]
     fn tables_made_to_meet_are_sorted() {
-        let words = all_meet();
-        assert!(rules_hold(&words));
-        let mut broken = words;
-        let table = Table::of_mut(&mut broken);
-        table.calls[63].places[3] = table.calls[5].places[1];
-        assert!(!rules_hold(&broken));
-        let mut broken = words;
-        Table::of_mut(&mut broken).calls[63].id = 1;
-        assert!(!rules_hold(&broken));
-        let mut broken = words;
-        Table::of_mut(&mut broken).calls[63].name[0] = 1;
-        assert!(!rules_hold(&broken));
+        for form in [1, 2] {
+            let (words, last) = (all_meet(form), TOTALS[form as usize] as usize - 1);
+            let breaks = |change: &dyn Fn(&mut Table)| {
+                let mut broken = words;
+                change(Table::of_mut(&mut broken));
+                !rules_hold(&broken)
+            };
+            assert!(!breaks(&|_| ()));
+            assert!(breaks(&|table| table.calls[last].places[3] = table.calls[5].places[1]));
+            assert!(breaks(&|table| table.calls[last].id = 1));
+            assert!(breaks(&|table| table.calls[last].name[0] = 1));
+        }
     }
 
     #[test]
     fn names_that_end_in_zero() {
         for size in 1..=32 {
-            let mut words = all_meet();
+            let mut words = all_meet(1);
             let call = &mut Table::of_mut(&mut words).calls[9];
             call.size = size as u32;
             call.name[..size].fill(b'n');

@@ -3,7 +3,9 @@
 use crate::Words;
 
 /// Slots for calls.
-pub const CALLS: usize = 64;
+pub const CALLS: usize = 200;
+/// How many of them are the total of a roster, by its form; with no customers, of form 0, none are.
+pub const TOTALS: [u32; 3] = [0, 64, CALLS as u32];
 
 #[repr(C)]
 #[derive(Clone, Copy)]
@@ -46,7 +48,8 @@ pub struct Table {
     pub epoch: u32,
     pub next: u32,
     pub listed: u32,
-    pub occupied: [u32; 2],
+    pub form: u32,
+    pub occupied: [u32; 8],
     pub customers: [Customer; 8],
     pub calls: [Call; CALLS],
 }
@@ -68,10 +71,15 @@ impl Table {
         unsafe { &mut *(words as *mut Words).cast::<Table>() }
     }
 
-    /// The used slots, a bit each.
+    /// The used ones of slots 64 w to 64 w + 63, a bit each.
     #[inline(always)]
-    pub fn used(&self) -> u64 {
-        u64::from(self.occupied[0]) | u64::from(self.occupied[1]) << 32
+    pub fn used(&self, w: usize) -> u64 {
+        u64::from(self.occupied[2 * w]) | u64::from(self.occupied[2 * w + 1]) << 32
+    }
+
+    #[inline(always)]
+    pub fn is_used(&self, slot: usize) -> bool {
+        self.occupied[slot / 32] >> (slot % 32) & 1 == 1
     }
 }
 

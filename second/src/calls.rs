@@ -21,8 +21,9 @@ impl Node {
         if self.roster.share_is_used(customer) {
             return 34;
         }
-        // Calls are at most S. Either S is under 64, or this customer is under its guarantee and calls are under S.
-        let slot = self.free.pop_first().expect("share leaves a free slot");
+        // Calls are at most S. Either S is under the total, or this customer is under its guarantee and calls are
+        // under S.
+        let slot = self.free.take_lowest().expect("share leaves a free slot");
         let call = OpenCall {
             slot,
             name,
@@ -44,7 +45,7 @@ impl Node {
         if !call.places.all_free() {
             return 32;
         }
-        self.free.insert(call.slot);
+        self.free.release(call.slot);
         self.calls.remove(&short);
         self.long_ids.remove(&long);
         self.roster.accounts[customer].open -= 1;

@@ -1,12 +1,13 @@
 //! 01, "What the node does" and the order of "Every answer".
 
-use std::collections::{BTreeSet, HashMap};
+use std::collections::HashMap;
 
 use crate::keys::{Connection, LongId, Name, ShortId};
 use crate::message::{read, CallRequest, Message};
 use crate::places::Places;
 use crate::reply::{self, Own};
 use crate::roster::Roster;
+use crate::slots::Slots;
 use crate::table::Table;
 
 /// What the node knows, in maps and sets.
@@ -21,8 +22,8 @@ pub struct Node {
     pub(crate) calls: HashMap<ShortId, OpenCall>,
     /// The short Call ID that goes with a long one.
     pub(crate) long_ids: HashMap<LongId, u16>,
-    /// The free ones of the sixty-four slots.
-    pub(crate) free: BTreeSet<usize>,
+    /// The free ones of the total's slots.
+    pub(crate) free: Slots,
     /// The connections, and where each stands.
     pub(crate) connections: HashMap<Connection, Position>,
 }

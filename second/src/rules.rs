@@ -1,12 +1,13 @@
 //! 01, "Table rules": from a table to the node's maps, which is the rule check, and back.
 
-use std::collections::{BTreeSet, HashMap};
+use std::collections::HashMap;
 
 use crate::keys::{Connection, Name, Pair};
 use crate::node::{Holder, Node, OpenCall, Position};
 use crate::places::Places;
-use crate::roster::Roster;
-use crate::table::{Call, Customer, Place, Table, CALLS};
+use crate::roster::{Form, Roster};
+use crate::slots::Slots;
+use crate::table::{Call, Customer, Place, Table, PLACES};
 
 /// An own epoch is under this.
 const EPOCHS: u32 = 1 << 24;
@@ -14,35 +15,53 @@ const EPOCHS: u32 = 1 << 24;
 impl Node {
     /// None where the table breaks a table rule (answer 1).
     pub fn from_table(table: &Table) -> Option<Node> {
-        let roster = checked_roster(table)?;
-        let free: BTreeSet<usize> = (0..CALLS).filter(|&slot| !table.uses(slot)).collect();
-        let used = CALLS - free.len();
-        let mut node = Node {
-            address: table.address,
-            epoch: table.epoch,
-            next: table.next,
-            roster,
-            calls: HashMap::with_capacity(used),
-            long_ids: HashMap::with_capacity(used),
-            free,
-            connections: HashMap::new(),
-        };
+        let mut node = Node::without_calls(table)?;
         for (slot, call) in table.calls.iter().enumerate() {
-            if !node.free.contains(&slot) {
-                node.insert_call(slot, call)?;
-            } else if *call != Call::FREE {
+            if !table.uses(slot) && *call != Call::FREE {
                 return None;
             }
+        }
+        let used = table.used().count();
+        node.calls.reserve(used);
+        node.long_ids.reserve(used);
+        node.connections.reserve(PLACES * used);
+        // A bit that no slot has is not in the total either.
+        for slot in table.used() {
+            node.insert_call(slot, table.calls.get(slot)?)?;
         }
         let listed = node.roster.accounts.len();
         for (customer, record) in table.customers[..listed].iter().enumerate() {
             node.insert_standalone(customer, record)?;
         }
-        (node.roster.share_sum() <= CALLS).then_some(node)
+        node.keeps_share().then_some(node)
     }
 
-    /// A used slot: listed sender within its limit, good IDs that its pair has only once, zeros for later requests.
-    fn insert_call(&mut self, slot: usize, call: &Call) -> Option<()> {
+    /// The node of the table's roster, with its calls and connections left out.
+    fn without_calls(table: &Table) -> Option<Node> {
+        let roster = checked_roster(table)?;
+        Some(Node {
+            address: table.address,
+            epoch: table.epoch,
+            next: table.next,
+            free: Slots::all_free(roster.total()),
+            roster,
+            calls: HashMap::new(),
+            long_ids: HashMap::new(),
+            connections: HashMap::new(),
+        })
+    }
+
+    /// S is at most the total.
+    pub(crate) fn keeps_share(&self) -> bool {
+        self.roster.share_sum() <= self.roster.total()
+    }
+
+    /// A used slot of the total: listed sender within its limit, good IDs that its pair has only once, zeros for later
+    /// requests.
+    pub(crate) fn insert_call(&mut self, slot: usize, call: &Call) -> Option<()> {
+        if !self.free.take(slot) {
+            return None;
+        }
         if call.made != 0 || call.refreshed != 0 || call.epoch != 0 || call.identifier != 0 {
             return None;
         }
@@ -110,6 +129,7 @@ impl Node {
             epoch: self.epoch,
             next: self.next,
             listed: self.roster.accounts.len() as u32,
+            form: self.roster.form.map_or(0, Form::number),
             ..Table::EMPTY
         };
         for (record, account) in table.customers.iter_mut().zip(&self.roster.accounts) {
@@ -133,26 +153,28 @@ impl Node {
     }
 }
 
-/// The roster is acceptable, or empty with zeros for address and epoch; unused records are zeros.
+/// The roster is acceptable, or empty with zeros for address, epoch and form; unused records are zeros.
 fn checked_roster(table: &Table) -> Option<Roster> {
     let listed = usize::try_from(table.listed).ok()?;
     let unused = table.customers.get(listed..)?;
     if unused.iter().any(|record| *record != Customer::UNUSED) {
         return None;
     }
-    if listed == 0 && (table.address != 0 || table.epoch != 0) {
+    let form = Form::numbered(table.form);
+    if listed == 0 {
+        let zeros = [table.address, table.epoch, table.form] == [0; 3];
+        return zeros.then(|| Roster::new(None, 0));
+    }
+    if table.epoch >= EPOCHS || form.is_none() {
         return None;
     }
-    if table.epoch >= EPOCHS {
-        return None;
-    }
-    let mut roster = Roster::with_capacity(listed);
+    let mut roster = Roster::new(form, listed);
     for record in &table.customers[..listed] {
         let guarantee = u8::try_from(record.guarantee).ok()?;
         let limit = u8::try_from(record.limit).ok()?;
         roster.list(record.address, guarantee, limit).ok()?;
     }
-    (roster.share_sum() <= CALLS).then_some(roster)
+    (roster.share_sum() <= roster.total()).then_some(roster)
 }
 
 /// A name of 1 to 32 bytes, the last of them not zero, zeros behind it.

@@ -1,8 +1,10 @@
-//! 01, "Table rules": the table as plain data, 2,238 words of 32 bits with the fields and the order of chaffmoor.h. A
+//! 01, "Table rules": the table as plain data, 6,597 words of 32 bits with the fields and the order of chaffmoor.h. A
 //! field can hold more than its values are: 01's widths are table rules (`rules`).
 
-/// Slots for calls.
-pub const CALLS: usize = 64;
+/// Slots for calls. A roster's total may be less (A11).
+pub const CALLS: usize = 200;
+/// Words of occupied bits. The bits past the last slot are clear.
+pub const OCCUPIED: usize = 8;
 /// Records of a roster.
 pub const CUSTOMERS: usize = 8;
 /// Connections under a call, and of Call ID 0 with a customer.
@@ -56,8 +58,10 @@ pub struct Table {
     pub epoch: u32,
     pub next: u32,
     pub listed: u32,
-    /// Bit i of the first, and bit i - 32 of the second: slot i of `calls` is used.
-    pub occupied: [u32; 2],
+    /// The roster's form, 0 where no customer is listed.
+    pub form: u32,
+    /// Bit i % 32 of word i / 32: slot i of `calls` is used.
+    pub occupied: [u32; OCCUPIED],
     pub customers: [Customer; CUSTOMERS],
     pub calls: [Call; CALLS],
 }
@@ -103,7 +107,8 @@ impl Table {
         epoch: 0,
         next: 1,
         listed: 0,
-        occupied: [0; 2],
+        form: 0,
+        occupied: [0; OCCUPIED],
         customers: [Customer::UNUSED; CUSTOMERS],
         calls: [Call::FREE; CALLS],
     };
@@ -111,6 +116,11 @@ impl Table {
     /// Whether the slot is used.
     pub fn uses(&self, slot: usize) -> bool {
         self.occupied[slot / 32] >> (slot % 32) & 1 == 1
+    }
+
+    /// The numbers whose bits are set, those that no slot has included.
+    pub fn used(&self) -> impl Iterator<Item = usize> + '_ {
+        (0..32 * OCCUPIED).filter(|&slot| self.uses(slot))
     }
 
     /// Marks the slot as used.

@@ -1,5 +1,5 @@
 /* A checkpoint from C: one is read into a table and written again; read once more when it is damaged, plainly and with
- * salvage; and refused. */
+ * salvage, and under a roster of form 2; and refused. */
 #include "chaffmoor.h"
 #include "show.h"
 
@@ -11,6 +11,13 @@ static const uint8_t roster[] = {
     0x12, 192, 0, 2, 1, 0, 0, 5,
     10, 1, 2, 3, 0x02, 0x08,
     172, 16, 5, 6, 0x06, 0x10,
+};
+
+/* The same in form 2, but that 172.16.5.6 has a limit of 200: a byte of guarantee, then one of limit. */
+static const uint8_t wide[] = {
+    0x22, 192, 0, 2, 1, 0, 0, 5,
+    10, 1, 2, 3, 1, 2,
+    172, 16, 5, 6, 3, 200,
 };
 
 enum { HEAD = 4, CALL = 55, CONNECTION = 18, SECOND = HEAD + CALL, BEHIND = HEAD + 2 * CALL };
@@ -30,13 +37,20 @@ static const uint8_t checkpoint[BEHIND + 4 * CONNECTION] = {
     203, 0, 113, 11, 0, 0, 0, 71, 0, 0, 0, 72, 10, 1, 2, 3, 0, 73,
 };
 
-static void read(const char *what, uint32_t salvage, const uint8_t *bytes, size_t length)
+static void read_under(const uint8_t *roster_bytes, size_t roster_length, const char *what, uint32_t salvage,
+                       const uint8_t *bytes, size_t length)
 {
     static chaffmoor_table table;
     memset(&table, 0xdd, sizeof table);
-    chaffmoor_checkpoint_read r = chaffmoor_read_checkpoint(&table, salvage, roster, sizeof roster, bytes, length);
+    chaffmoor_checkpoint_read r =
+        chaffmoor_read_checkpoint(&table, salvage, roster_bytes, roster_length, bytes, length);
     printf("%s: answer %u, dropped %zu calls and %zu connections\n", what, (unsigned)r.answer, r.calls, r.connections);
     show_table(&table);
+}
+
+static void read(const char *what, uint32_t salvage, const uint8_t *bytes, size_t length)
+{
+    read_under(roster, sizeof roster, what, salvage, bytes, length);
 }
 
 /* Into a buffer of this length that holds the byte ee before. */
@@ -63,11 +77,12 @@ int main(void)
     table.calls[3].id = 0;
     write(&table, sizeof checkpoint);
 
-    /* The second call's slot becomes 64, which is not there: its two connections go with it. */
+    /* The second call's slot becomes 64, which form 1 does not have: its two connections go with it. Form 2 has it. */
     memcpy(damaged, checkpoint, sizeof checkpoint);
     damaged[SECOND] = 64;
     read("damaged, plain", 0, damaged, sizeof damaged);
     read("damaged, salvage", 1, damaged, sizeof damaged);
+    read_under(wide, sizeof wide, "under form 2, plain", 0, damaged, sizeof damaged);
     read("a byte less", 1, checkpoint, sizeof checkpoint - 1);
     damaged[0] = 0x20;
     read("form 2", 1, damaged, sizeof damaged);

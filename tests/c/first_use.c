@@ -1,5 +1,5 @@
 /* A first use of the library from C: a roster, the worked Path of document 01 and its reply, a setup and its reply, two
- * connections, every field of the table, and tables that were changed by hand.
+ * connections, every field of the table, tables that were changed by hand, and a roster of form 2.
  * Build: cc -Iinclude tests/c/first_use.c target/staticlib/libchaffmoor.a -o first_use */
 #include "chaffmoor.h"
 #include "show.h"
@@ -8,6 +8,9 @@
 #include <string.h>
 
 static const uint8_t roster[] = {0x11, 0x0a, 0, 0, 2, 0, 0, 7, 0x0a, 0, 0, 1, 0x02, 0x08};
+
+/* One of form 2: 10.0.0.1 has guarantee 100 and limit 200, 10.0.0.3 has 100 and 100. */
+static const uint8_t wide[] = {0x22, 0x0a, 0, 0, 2, 0, 0, 7, 0x0a, 0, 0, 1, 100, 200, 0x0a, 0, 0, 3, 100, 100};
 
 /* A Path for a connection under Call ID 5, which is not open. */
 static const uint8_t path[] = {
@@ -102,5 +105,22 @@ int main(void)
     broken("made", &table.calls[0].made, 1);
     printf("they are at %zu, %zu, %zu and %zu\n", offsetof(chaffmoor_call, refreshed), offsetof(chaffmoor_call, epoch),
            offsetof(chaffmoor_call, identifier), offsetof(chaffmoor_call, made));
+
+    /* Form 1 has 64 calls in all: the slots behind them are free, and bits 200 to 255 have no slot. */
+    broken("form 0", &table.form, 0);
+    broken("form 3", &table.form, 3);
+    broken("bit 64", &table.occupied[2], 1);
+    broken("bit 200", &table.occupied[6], 1 << 8);
+    broken("a field of slot 64", &table.calls[64].endpoint, 1);
+    broken("a limit of 65", &table.customers[0].limit, 65);
+
+    printf("roster of form 2: answer %u\n", (unsigned)chaffmoor_read_roster(&table, wide, sizeof wide));
+    send("setup", setup, sizeof setup);
+    show_table(&table);
+    broken("bit 200", &table.occupied[6], 1 << 8);
+    broken("a limit of 201", &table.customers[0].limit, 201);
+    /* Refused, and the table is the empty one. */
+    printf("a byte less: answer %u\n", (unsigned)chaffmoor_read_roster(&table, wide, sizeof wide - 1));
+    show_table(&table);
     return 0;
 }

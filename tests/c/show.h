@@ -14,10 +14,21 @@ static void show_bytes(const uint8_t *bytes, size_t length)
     printf("\n");
 }
 
-/* The used slots, one bit each. */
-static unsigned long long slots(const chaffmoor_table *table)
+/* Whether a bit of the used slots is set. */
+static int is_used(const chaffmoor_table *table, int slot)
 {
-    return (unsigned long long)table->occupied[1] << 32 | table->occupied[0];
+    return table->occupied[slot / 32] >> slot % 32 & 1;
+}
+
+/* The numbers of the bits that are set, those that no slot has too. */
+static void show_slots(const chaffmoor_table *table)
+{
+    int bits = 8 * (int)sizeof table->occupied;
+    printf(", slots used:");
+    for (int i = 0; i < bits; i++)
+        if (is_used(table, i))
+            printf(" %d", i);
+    printf("\n");
 }
 
 static void show_place(const char *of, uint32_t endpoint, const chaffmoor_place *place)
@@ -49,12 +60,13 @@ static void show_call(int slot, const chaffmoor_call *call)
 
 static void show_table(const chaffmoor_table *table)
 {
-    printf("table: address %08x, epoch %u, next %u, listed %u, slots used %llx\n", (unsigned)table->address,
-           (unsigned)table->epoch, (unsigned)table->next, (unsigned)table->listed, slots(table));
+    printf("table: address %08x, epoch %u, next %u, listed %u, form %u", (unsigned)table->address,
+           (unsigned)table->epoch, (unsigned)table->next, (unsigned)table->listed, (unsigned)table->form);
+    show_slots(table);
     for (unsigned k = 0; k < table->listed; k++)
         show_customer(&table->customers[k]);
     for (int i = 0; i < CHAFFMOOR_CALLS; i++)
-        if (slots(table) >> i & 1)
+        if (is_used(table, i))
             show_call(i, &table->calls[i]);
 }
 

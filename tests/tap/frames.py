@@ -4,7 +4,7 @@ import sys
 from pathlib import Path
 
 sys.path.insert(0, str(Path(__file__).resolve().parent.parent))
-from layouts import TWO, X, Y, close, frames, obj, path, path_tear, roster, setup
+from layouts import TWO, TWO_2, X, Y, close, frames, obj, path, path_tear, roster, roster_2, setup
 
 
 def filled(size):
@@ -79,6 +79,44 @@ CASES = {
     # both limits 64: guarantees 62 + 2, and 62 + 3
     "sum64": frames(roster((X, 2, 64), (Y, 62, 64))),
     "sum65": frames(roster((X, 3, 64), (Y, 62, 64)), setup(Y, 5, b"a")),
+    # 02, A11, form 2: Y with 198 calls and S 200 asks again; X closes one, Y asks; X, at its guarantee, asks
+    "full-2": frames(
+        TWO_2,
+        setup(X, 1, b"a"),
+        setup(X, 2, b"b"),
+        setup(X, 3, b"c"),
+        *[setup(Y, k, b"y%d" % k) for k in range(1, 199)],
+        setup(Y, 199, b"y199"),
+        close(X, 2, b"b"),
+        setup(Y, 199, b"y199"),
+        setup(X, 2, b"b"),
+    ),
+    # a connection under the call in slot 64, which form 1 does not have
+    "far-2": frames(
+        TWO_2,
+        *[setup(Y, k, b"y%d" % k) for k in range(1, 66)],
+        setup(Y, 65, b"y65"),
+        path(Y, 65, 1),
+        path(Y, 64, 1),
+        path(Y, 65, 1),
+        close(Y, 65, b"y65"),
+        path_tear(Y, 0, 1),
+        close(Y, 65, b"y65"),
+        close(Y, 65, b"y65"),
+    ),
+    # limits of 200 and 201, guarantees 100 + 100 and 100 + 101
+    "limit200": frames(roster_2((X, 200, 200))),
+    "limit201": frames(roster_2((X, 0, 201)), setup(X, 5, b"a")),
+    "sum200": frames(roster_2((X, 100, 200), (Y, 100, 200))),
+    "sum201": frames(roster_2((X, 100, 200), (Y, 101, 200)), setup(Y, 5, b"a")),
+    # the last bit of a record is spare in form 1 and the limit's lowest in form 2; 65 is too much in form 1 only
+    "spare-1": frames(roster((X, 1, 2))[:-1] + b"\x09"),
+    "spare-2": frames(roster_2((X, 1, 2))[:-1] + b"\x09", setup(X, 5, b"a")),
+    "limit65-1": frames(roster((X, 1, 65))),
+    "limit65-2": frames(roster_2((X, 1, 65)), setup(X, 5, b"a")),
+    # forms 0 and 3
+    "form0": frames(b"\x01" + roster((X, 1, 2))[1:]),
+    "form3": frames(b"\x31" + roster_2((X, 1, 2))[1:]),
     # frames: nothing; a lone byte; a cut roster; a cut message; frames of length 0 and 65,535
     "empty": b"",
     "lone": b"\x00",

@@ -23,6 +23,7 @@ impl Node {
             spare: 0,
         };
         let roster = Roster {
+            form: 1,
             address: END,
             epoch: 7,
             records: vec![record(X, 1, 2), record(Y, 0, 64)],

@@ -102,7 +102,7 @@ fn some<'a, T>(items: &'a mut [T], random: &mut Random) -> &'a mut T {
     &mut items[place]
 }
 
-/// Changes a free slot; often the last one, or the first.
+/// Changes a free slot of the total; often the last one, or the first. Those outside it are for `form`.
 fn slot(table: &mut Table, random: &mut Random, change: fn(&mut Call, &mut Random)) -> bool {
     let free = tables::free(table);
     let (Some(&low), Some(&high)) = (free.first(), free.last()) else {

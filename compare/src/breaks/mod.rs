@@ -1,8 +1,10 @@
 //! Tables that break a table rule of 01, one function a rule and way. Each is handed a table that breaks none and
-//! says whether it could break it; the answer due is then 1. Each leaves all other rules as they are where it can.
+//! says whether it could break it; the answer due is then 1. Each leaves all other rules as they are where it can. A
+//! name that begins with a form is that of a breaking which only a table of that form can have.
 
 mod calls;
 mod connections;
+pub mod form;
 mod free;
 mod roster;
 pub mod tools;
@@ -19,4 +21,5 @@ pub fn all() -> impl Iterator<Item = &'static (&'static str, Break)> {
         .chain(calls::BREAKS)
         .chain(connections::BREAKS)
         .chain(free::BREAKS)
+        .chain(form::BREAKS)
 }

@@ -1,7 +1,8 @@
-//! "The roster is acceptable or empty", "c within limit", "S at most 64".
+//! "The roster is acceptable or empty", "c within limit", "S at most 64", or 200 in form 2.
 
 use super::tools::*;
 use super::Break;
+use crate::layout::BITS;
 use crate::random::Random;
 use crate::tables::{self, EMPTY};
 use second::table::{Customer, Table};
@@ -20,15 +21,15 @@ pub const BREAKS: &[(&str, Break)] = &[
     ("epoch 2^24", epoch_next),
     ("epoch above 2^24", epoch_above),
     ("limit 0", limit_none),
-    ("limit 65", limit_next),
-    ("limit 66 to 255", limit_above),
+    ("limit one above the total", limit_next),
+    ("limit further above the total", limit_above),
     ("guarantee above a limit lowered", guarantee_by_limit),
     ("guarantee raised above the limit", guarantee_raised),
     ("address listed twice", address_twice),
-    ("guarantees add up to 65", guarantees_next),
-    ("guarantees far above 64", guarantees_above),
-    ("S 65 by a guarantee", taken_by_guarantee),
-    ("S 65 by a call", taken_by_call),
+    ("guarantees add up to one above the total", guarantees_next),
+    ("guarantees far above the total", guarantees_above),
+    ("S one above the total by a guarantee", taken_by_guarantee),
+    ("S one above the total by a call", taken_by_call),
     ("calls above a limit lowered", calls_by_limit),
     ("calls above the limit by one opened", calls_by_call),
 ];
@@ -63,7 +64,7 @@ fn listed_none(table: &mut Table, random: &mut Random) -> bool {
     let had_some = table.listed > 0;
     table.listed = 0;
     if random.chance(1, 2) {
-        (table.address, table.epoch) = (0, 0);
+        (table.address, table.epoch, table.form) = (0, 0, 0);
         keep_calls(table, |_, _| false);
     }
     had_some
@@ -83,7 +84,7 @@ fn empty_epoch(table: &mut Table, random: &mut Random) -> bool {
 
 fn empty_bit(table: &mut Table, random: &mut Random) -> bool {
     *table = EMPTY;
-    tables::set_used(table, random.below(64), true);
+    tables::set_used(table, random.below(BITS), true);
     true
 }
 
@@ -137,11 +138,12 @@ fn with_customer(table: &mut Table, random: &mut Random, change: impl FnOnce(&mu
 }
 
 fn limit_next(table: &mut Table, random: &mut Random) -> bool {
-    with_customer(table, random, |one| one.limit = 65)
+    let limit = tables::total(table) as u32 + 1;
+    with_customer(table, random, |one| one.limit = limit)
 }
 
 fn limit_above(table: &mut Table, random: &mut Random) -> bool {
-    let limit = random.between(66, 255) as u32;
+    let limit = random.between(tables::total(table) + 2, 300) as u32;
     with_customer(table, random, |one| one.limit = limit)
 }
 
@@ -182,14 +184,15 @@ fn guarantees_next(table: &mut Table, random: &mut Random) -> bool {
         return false;
     };
     keep_calls(table, |_, _| false);
-    raise_taken(table, one, 65);
-    table.customers[one].limit <= 64
+    let total = tables::total(table);
+    raise_taken(table, one, total + 1);
+    table.customers[one].limit as usize <= total
 }
 
 fn guarantees_above(table: &mut Table, _: &mut Random) -> bool {
-    let listed = table.listed as usize;
+    let (listed, total) = (table.listed as usize, tables::total(table) as u32);
     for customer in &mut table.customers[..listed] {
-        (customer.guarantee, customer.limit) = (64, 64);
+        (customer.guarantee, customer.limit) = (total, total);
     }
     listed > 1
 }
@@ -203,22 +206,24 @@ fn above_its_guarantee(table: &mut Table, random: &mut Random) -> Option<(usize,
     (!others.is_empty()).then(|| (one, *random.pick(&others)))
 }
 
-/// The guarantees still add up to 64 at most.
+/// The guarantees still add up to the total at most.
 fn taken_by_guarantee(table: &mut Table, random: &mut Random) -> bool {
     let Some((_, other)) = above_its_guarantee(table, random) else {
         return false;
     };
-    raise_taken(table, other, 65);
-    table.customers[other].limit <= 64
+    let total = tables::total(table);
+    raise_taken(table, other, total + 1);
+    table.customers[other].limit as usize <= total
 }
 
-/// One call more where S is 64.
+/// One call more where S is the total.
 fn taken_by_call(table: &mut Table, random: &mut Random) -> bool {
     let Some((one, other)) = above_its_guarantee(table, random) else {
         return false;
     };
-    raise_taken(table, other, 64);
-    table.customers[one].limit = 64;
+    let total = tables::total(table);
+    raise_taken(table, other, total);
+    table.customers[one].limit = total as u32;
     add_call(table, one, random)
 }
 
@@ -240,5 +245,5 @@ fn calls_by_call(table: &mut Table, random: &mut Random) -> bool {
     let one = &mut table.customers[customer];
     one.limit = count as u32;
     one.guarantee = one.guarantee.min(one.limit);
-    tables::taken(table) < 64 && add_call(table, customer, random)
+    tables::taken(table) < tables::total(table) && add_call(table, customer, random)
 }

@@ -193,6 +193,12 @@ pub fn add_call(table: &mut Table, customer: usize, random: &mut Random) -> bool
         return false;
     }
     let slot = *random.pick(&free);
+    put_call(table, customer, slot, random);
+    true
+}
+
+/// A call of the customer in this slot, which is free, with fresh IDs and a fresh end point.
+pub fn put_call(table: &mut Table, customer: usize, slot: usize, random: &mut Random) {
     let (endpoint, id) = (fresh_endpoint(table, random), fresh_id(table, random));
     let call = &mut table.calls[slot];
     call.endpoint = endpoint;
@@ -200,7 +206,6 @@ pub fn add_call(table: &mut Table, customer: usize, random: &mut Random) -> bool
     call.id = id;
     fresh_name(call, random);
     tables::set_used(table, slot, true);
-    true
 }
 
 /// Raises a customer's guarantee, and its limit with it, until S is `sum`. S may not be above it yet.

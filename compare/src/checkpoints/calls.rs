@@ -3,6 +3,7 @@
 use super::damage::Damage;
 use super::parts::*;
 use crate::build::Roster;
+use crate::form;
 use crate::random::Random;
 
 pub const DAMAGES: &[(&str, Damage)] = &[
@@ -38,11 +39,19 @@ pub const DAMAGES: &[(&str, Damage)] = &[
     }),
     ("call with connections: name padded", padded),
     ("call: Call ID 0", |p, _, r| one(p, r, |call, _| set(call, ID, 0))),
-    ("call: slot outside the total", |p, _, r| {
-        one(p, r, |call, r| call[SLOT.0] = *r.pick(&[64, 65, 127, 128, 192, 255]))
+    ("call: slot outside the total", |p, roster, r| {
+        let slots = [64, 65, 127, 128, 192, 199, 200, 201, 255];
+        let outside: Vec<usize> = slots.into_iter().filter(|&slot| slot >= roster.total()).collect();
+        let slot = *r.pick(&outside);
+        to_slot(p, slot, r)
     }),
-    ("call: moved to another slot", |p, _, r| {
-        one(p, r, |call, r| call[SLOT.0] = r.below(64) as u8)
+    ("call: moved to another slot", |p, roster, r| {
+        let slot = r.below(roster.total());
+        to_slot(p, slot, r)
+    }),
+    ("call: moved to a slot from 64 to 199", |p, _, r| {
+        let slot = r.between(form::total(1), form::total(2) - 1);
+        to_slot(p, slot, r)
     }),
     ("call: moved to a taken slot", taken_slot),
     ("call: sender changed", sender),
@@ -65,6 +74,15 @@ fn one(parts: &mut Parts, random: &mut Random, change: fn(&mut Call, &mut Random
         return false;
     };
     change(&mut parts.calls[number], random);
+    true
+}
+
+/// Some call to this slot.
+fn to_slot(parts: &mut Parts, slot: usize, random: &mut Random) -> bool {
+    let Some(number) = parts.some_call(random) else {
+        return false;
+    };
+    parts.calls[number][SLOT.0] = slot as u8;
     true
 }
 
@@ -175,15 +193,16 @@ fn taken_out(parts: &mut Parts, _: &Roster, random: &mut Random) -> bool {
     true
 }
 
-/// Up to seventy new calls of one customer, mostly in free slots, so that limit and S are reached.
+/// Up to a few more than the total of new calls of one customer, mostly in free slots, so that limit and S are reached.
 fn more(parts: &mut Parts, roster: &Roster, random: &mut Random) -> bool {
     let sender = random.pick(&roster.records).address;
-    let mut slots: Vec<u8> = (0..64).collect();
+    let total = roster.total();
+    let mut slots: Vec<u8> = (0..total as u8).collect();
     random.shuffle(&mut slots);
     if random.chance(3, 4) {
         slots.retain(|&slot| parts.calls.iter().all(|call| call[SLOT.0] != slot));
     }
-    let most = *random.pick(&[2, 8, 70]);
+    let most = *random.pick(&[2, 8, total + 6]);
     slots.truncate(random.between(1, most));
     for slot in slots {
         let call = fresh(slot, sender, random);

@@ -8,10 +8,18 @@ use crate::build::Roster;
 use crate::random::Random;
 
 pub const DAMAGES: &[(&str, Damage)] = &[
-    ("duplicate: without connections", |p, _, r| duplicate(p, r).is_some()),
-    ("duplicate: with one more connection", |p, _, r| named(p, r, 1)),
-    ("duplicate: with as many connections", |p, _, r| named(p, r, 0)),
-    ("duplicate: with one less connection", |p, _, r| named(p, r, -1)),
+    ("duplicate: without connections", |p, roster, r| {
+        duplicate(p, roster, r).is_some()
+    }),
+    ("duplicate: with one more connection", |p, roster, r| {
+        named(p, roster, r, 1)
+    }),
+    ("duplicate: with as many connections", |p, roster, r| {
+        named(p, roster, r, 0)
+    }),
+    ("duplicate: with one less connection", |p, roster, r| {
+        named(p, roster, r, -1)
+    }),
     ("duplicate: with the call's connections", taken_over),
     ("duplicate: same short ID, another slot", same_id),
     ("duplicate: breaks a rule alone", broken),
@@ -21,7 +29,7 @@ pub const DAMAGES: &[(&str, Damage)] = &[
 ];
 
 /// A second record of a call, in another slot and under another short ID, before it or behind it: both their numbers.
-fn duplicate(parts: &mut Parts, random: &mut Random) -> Option<(usize, usize)> {
+fn duplicate(parts: &mut Parts, roster: &Roster, random: &mut Random) -> Option<(usize, usize)> {
     let number = parts.some_call(random)?;
     let mut call = parts.calls[number];
     let pair = pair(&call);
@@ -32,7 +40,7 @@ fn duplicate(parts: &mut Parts, random: &mut Random) -> Option<(usize, usize)> {
     {
         set(&mut call, ID, 1 + u32::from(random.half() >> 1));
     }
-    call[SLOT.0] = free_slot(parts, random);
+    call[SLOT.0] = free_slot(parts, roster.total(), random);
     let place = random.between(0, parts.calls.len());
     parts.calls.insert(place, call);
     let number = if place <= number { number + 1 } else { number };
@@ -40,11 +48,11 @@ fn duplicate(parts: &mut Parts, random: &mut Random) -> Option<(usize, usize)> {
 }
 
 /// A slot that no record names, if there is one.
-fn free_slot(parts: &Parts, random: &mut Random) -> u8 {
+fn free_slot(parts: &Parts, total: usize, random: &mut Random) -> u8 {
     let is_free = |slot: &u8| parts.calls.iter().all(|call| call[SLOT.0] != *slot);
-    let free: Vec<u8> = (0..64).filter(is_free).collect();
+    let free: Vec<u8> = (0..total as u8).filter(is_free).collect();
     match free.is_empty() {
-        true => random.below(64) as u8,
+        true => random.below(total) as u8,
         false => *random.pick(&free),
     }
 }
@@ -63,8 +71,8 @@ fn name(parts: &mut Parts, number: usize, count: usize, random: &mut Random) {
 }
 
 /// A duplicate that this many connections more name than the call.
-fn named(parts: &mut Parts, random: &mut Random, more: isize) -> bool {
-    let Some((call, duplicate)) = duplicate(parts, random) else {
+fn named(parts: &mut Parts, roster: &Roster, random: &mut Random, more: isize) -> bool {
+    let Some((call, duplicate)) = duplicate(parts, roster, random) else {
         return false;
     };
     let more_of_call = random.between(0, 3);
@@ -78,8 +86,8 @@ fn named(parts: &mut Parts, random: &mut Random, more: isize) -> bool {
 }
 
 /// The connections name the duplicate, all or some.
-fn taken_over(parts: &mut Parts, _: &Roster, random: &mut Random) -> bool {
-    let Some((call, duplicate)) = duplicate(parts, random) else {
+fn taken_over(parts: &mut Parts, roster: &Roster, random: &mut Random) -> bool {
+    let Some((call, duplicate)) = duplicate(parts, roster, random) else {
         return false;
     };
     let id = get(&parts.calls[duplicate], ID);
@@ -93,8 +101,8 @@ fn taken_over(parts: &mut Parts, _: &Roster, random: &mut Random) -> bool {
 }
 
 /// Two records of one call, in two slots.
-fn same_id(parts: &mut Parts, _: &Roster, random: &mut Random) -> bool {
-    let Some((call, duplicate)) = duplicate(parts, random) else {
+fn same_id(parts: &mut Parts, roster: &Roster, random: &mut Random) -> bool {
+    let Some((call, duplicate)) = duplicate(parts, roster, random) else {
         return false;
     };
     let id = get(&parts.calls[call], ID);
@@ -105,13 +113,13 @@ fn same_id(parts: &mut Parts, _: &Roster, random: &mut Random) -> bool {
 }
 
 /// Step 1 drops the duplicate, so that its connections don't help it.
-fn broken(parts: &mut Parts, _: &Roster, random: &mut Random) -> bool {
-    let Some((_, duplicate)) = duplicate(parts, random) else {
+fn broken(parts: &mut Parts, roster: &Roster, random: &mut Random) -> bool {
+    let Some((_, duplicate)) = duplicate(parts, roster, random) else {
         return false;
     };
     let call = &mut parts.calls[duplicate];
     match random.below(3) {
-        0 => call[SLOT.0] = 64,
+        0 => call[SLOT.0] = roster.total() as u8,
         1 => set(call, EPOCH, 1),
         _ => call[SIZE.0] |= 0x80,
     }
@@ -120,8 +128,8 @@ fn broken(parts: &mut Parts, _: &Roster, random: &mut Random) -> bool {
 }
 
 /// A record of the same name with padding, as it could stand beside the other before A1: step 1 drops it.
-fn padded(parts: &mut Parts, _: &Roster, random: &mut Random) -> bool {
-    let Some((_, duplicate)) = duplicate(parts, random) else {
+fn padded(parts: &mut Parts, roster: &Roster, random: &mut Random) -> bool {
+    let Some((_, duplicate)) = duplicate(parts, roster, random) else {
         return false;
     };
     calls::pad(&mut parts.calls[duplicate], random);
@@ -131,8 +139,8 @@ fn padded(parts: &mut Parts, _: &Roster, random: &mut Random) -> bool {
 }
 
 /// Step 2 keeps the duplicate, step 3 drops it: the call does not come back.
-fn slot_taken(parts: &mut Parts, _: &Roster, random: &mut Random) -> bool {
-    let Some((call, duplicate)) = duplicate(parts, random) else {
+fn slot_taken(parts: &mut Parts, roster: &Roster, random: &mut Random) -> bool {
+    let Some((call, duplicate)) = duplicate(parts, roster, random) else {
         return false;
     };
     let others = (0..duplicate).filter(|&other| other != call);
@@ -145,9 +153,9 @@ fn slot_taken(parts: &mut Parts, _: &Roster, random: &mut Random) -> bool {
     true
 }
 
-fn several(parts: &mut Parts, _: &Roster, random: &mut Random) -> bool {
+fn several(parts: &mut Parts, roster: &Roster, random: &mut Random) -> bool {
     for _ in 0..random.between(2, 6) {
-        let Some((_, duplicate)) = duplicate(parts, random) else {
+        let Some((_, duplicate)) = duplicate(parts, roster, random) else {
             return false;
         };
         let count = random.between(0, 4);

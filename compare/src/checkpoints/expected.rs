@@ -2,11 +2,14 @@
 //! counts them only: tables are compared between the two programs.
 
 use super::parts::*;
-use crate::build::Record;
+use crate::form::{self, Customer};
+use crate::layout::SLOTS;
+use std::collections::HashMap;
 
 /// Why a record is dropped.
 pub const REASONS: &[&str] = &[
-    "call alone: slot outside the total",
+    "call alone: slot 200 and above",
+    "call alone: slot 64 to 199 under form 1",
     "call alone: sender not listed",
     "call alone: Call ID 0",
     "call alone: name length 0",
@@ -38,45 +41,99 @@ pub struct Drops {
     pub connections: Vec<&'static str>,
 }
 
+/// The roster that a checkpoint is read under.
+struct Roster {
+    total: usize,
+    customers: Vec<Customer>,
+}
+
 /// What salvage drops of a checkpoint's records under an accepted roster.
-pub fn expected_drops(roster: &[Record], parts: &Parts) -> Drops {
+pub fn expected_drops(roster: &[u8], parts: &Parts) -> Drops {
+    let (total, customers) = form::accepted(roster);
+    let roster = Roster { total, customers };
     let mut drops = Drops::default();
+    let names = names(parts);
     let mut left: Vec<(&Call, usize)> = Vec::new();
     for call in &parts.calls {
-        match alone(roster, call) {
+        match alone(&roster, call) {
             Some(reason) => drops.calls.push(reason),
-            None => left.push((call, parts.naming(call).len())),
+            None => left.push((call, names.get(&short_id(call)).copied().unwrap_or(0))),
         }
     }
     let mut kept: Vec<&Call> = Vec::new();
     for number in 0..left.len() {
         let call = left[number].0;
-        match duplicate(&left, number).or_else(|| beside(roster, &kept, call)) {
+        match duplicate(&left, number).or_else(|| beside(&roster, &kept, call)) {
             Some(reason) => drops.calls.push(reason),
             None => kept.push(call),
         }
     }
-    let mut held: Vec<&Connection> = Vec::new();
+    let mut held = Held::default();
     for connection in &parts.connections {
-        match connected(roster, &kept, &held, connection) {
+        match connected(&roster, &kept, &held, connection) {
             Some(reason) => drops.connections.push(reason),
-            None => held.push(connection),
+            None => held.put(connection),
         }
     }
     drops
 }
 
-fn is_listed(roster: &[Record], sender: u32) -> bool {
-    roster.iter().any(|record| record.address == sender)
+/// A short Call ID with its pair.
+type ShortId = ((u32, u32), u32);
+
+fn short_id(call: &Call) -> ShortId {
+    (pair(call), get(call, ID))
+}
+
+fn under_id(connection: &Connection) -> ShortId {
+    (under_pair(connection), get(connection, UNDER_ID))
+}
+
+/// How many connections name each call.
+fn names(parts: &Parts) -> HashMap<ShortId, usize> {
+    let mut names = HashMap::new();
+    for connection in &parts.connections {
+        *names.entry(under_id(connection)).or_default() += 1;
+    }
+    names
+}
+
+/// The connections kept so far: by their five fields the Call ID, and how many stand with each call and customer.
+#[derive(Default)]
+struct Held {
+    ids: HashMap<Vec<u8>, u32>,
+    calls: HashMap<ShortId, usize>,
+    customers: HashMap<u32, usize>,
+}
+
+impl Held {
+    /// The five fields: all but the Call ID.
+    fn key(one: &Connection) -> Vec<u8> {
+        [&one[..UNDER_ID.0], &one[UNDER_TUNNEL.0..]].concat()
+    }
+
+    fn put(&mut self, one: &Connection) {
+        self.ids.insert(Held::key(one), get(one, UNDER_ID));
+        *self.calls.entry(under_id(one)).or_default() += 1;
+        if get(one, UNDER_ID) == 0 {
+            *self.customers.entry(get(one, UNDER_SENDER)).or_default() += 1;
+        }
+    }
+}
+
+fn is_listed(roster: &Roster, sender: u32) -> bool {
+    roster.customers.iter().any(|customer| customer.address == sender)
 }
 
 /// Step 1.
-fn alone(roster: &[Record], call: &Call) -> Option<&'static str> {
+fn alone(roster: &Roster, call: &Call) -> Option<&'static str> {
     let size = call[SIZE.0] as usize & 0x7f;
     let past = call[NAME.0..REFRESHED.0].iter().skip(size).any(|&byte| byte != 0);
     let ends_in_zero = (1..=32).contains(&size) && call[NAME.0 + size - 1] == 0;
+    let slot = get(call, SLOT) as usize;
     let faults = [
-        (get(call, SLOT) >= 64, "call alone: slot outside the total"),
+        (slot >= SLOTS, "call alone: slot 200 and above"),
+        (slot >= roster.total, "call alone: slot 64 to 199 under form 1"),
         (!is_listed(roster, get(call, SENDER)), "call alone: sender not listed"),
         (get(call, ID) == 0, "call alone: Call ID 0"),
         (size == 0, "call alone: name length 0"),
@@ -110,15 +167,14 @@ fn duplicate(left: &[(&Call, usize)], number: usize) -> Option<&'static str> {
 }
 
 /// Step 3 for a call.
-fn beside(roster: &[Record], kept: &[&Call], call: &Call) -> Option<&'static str> {
+fn beside(roster: &Roster, kept: &[&Call], call: &Call) -> Option<&'static str> {
     let count = |address| {
-        let mut calls = kept.to_vec();
-        calls.push(call);
-        calls.into_iter().filter(|&one| get(one, SENDER) == address).count()
+        let calls = kept.iter().filter(|one| get(**one, SENDER) == address).count();
+        calls + usize::from(get(call, SENDER) == address)
     };
-    let larger = |record: &Record| count(record.address).max(record.guarantee.into());
-    let mut own = roster.iter().filter(|record| record.address == get(call, SENDER));
-    let short = |one: &&Call| pair(one) == pair(call) && get(*one, ID) == get(call, ID);
+    let larger = |one: &Customer| count(one.address).max(one.guarantee);
+    let mut own = roster.customers.iter().filter(|one| one.address == get(call, SENDER));
+    let short = |one: &&Call| short_id(one) == short_id(call);
     first_of(&[
         (
             kept.iter().any(|one| one[SLOT.0] == call[SLOT.0]),
@@ -126,36 +182,34 @@ fn beside(roster: &[Record], kept: &[&Call], call: &Call) -> Option<&'static str
         ),
         (kept.iter().any(short), "call beside others: short ID twice"),
         (
-            own.any(|record| count(record.address) > record.limit.into()),
+            own.any(|one| count(one.address) > one.limit),
             "call beside others: limit",
         ),
-        (roster.iter().map(larger).sum::<usize>() > 64, "call beside others: S"),
+        (
+            roster.customers.iter().map(larger).sum::<usize>() > roster.total,
+            "call beside others: S",
+        ),
     ])
 }
 
 /// Step 3 for a connection.
-fn connected(roster: &[Record], kept: &[&Call], held: &[&Connection], one: &Connection) -> Option<&'static str> {
-    let id = get(one, UNDER_ID);
-    let is_call = |call: &&Call| pair(call) == under_pair(one) && get(*call, ID) == id;
-    // The five fields: all but the Call ID.
-    let same = |other: &&&Connection| other[..4] == one[..4] && other[6..] == one[6..];
-    let twice: Vec<u32> = held.iter().filter(same).map(|other| get(*other, UNDER_ID)).collect();
-    let sender = |other: &&&Connection| get(**other, UNDER_SENDER) == get(one, UNDER_SENDER);
-    let fellows = held.iter().filter(|other| get(**other, UNDER_ID) == id).filter(sender);
-    let in_pair = |other: &&&Connection| under_pair(other) == under_pair(one);
+fn connected(roster: &Roster, kept: &[&Call], held: &Held, one: &Connection) -> Option<&'static str> {
+    let (id, sender) = (get(one, UNDER_ID), get(one, UNDER_SENDER));
+    let is_call = |call: &&Call| short_id(call) == under_id(one);
+    let twice = held.ids.get(&Held::key(one));
     first_of(&[
-        (
-            !is_listed(roster, get(one, UNDER_SENDER)),
-            "connection: sender not listed",
-        ),
+        (!is_listed(roster, sender), "connection: sender not listed"),
         (id != 0 && !kept.iter().any(is_call), "connection: no such call"),
-        (twice.contains(&id), "connection: twice under one call"),
-        (!twice.is_empty(), "connection: twice under two Call IDs"),
+        (twice == Some(&id), "connection: twice under one call"),
+        (twice.is_some(), "connection: twice under two Call IDs"),
         (
-            id != 0 && fellows.clone().filter(in_pair).count() == 4,
+            id != 0 && held.calls.get(&under_id(one)) == Some(&4),
             "connection: a call's four",
         ),
-        (id == 0 && fellows.count() == 4, "connection: a customer's four"),
+        (
+            id == 0 && held.customers.get(&sender) == Some(&4),
+            "connection: a customer's four",
+        ),
     ])
 }
 
@@ -163,12 +217,8 @@ fn connected(roster: &[Record], kept: &[&Call], held: &[&Connection], one: &Conn
 mod tests {
     use super::*;
 
-    const ROSTER: &[Record] = &[Record {
-        address: 9,
-        guarantee: 0,
-        limit: 2,
-        spare: 0,
-    }];
+    /// Form 1; the address 9 has a limit of 2.
+    const ROSTER: &[u8] = &[0x11, 0, 0, 0, 1, 0, 0, 7, 0, 0, 0, 9, 0, 8];
 
     fn call(slot: u8, id: u8, name: u8) -> Call {
         let mut call = [0; CALL];
@@ -226,6 +276,33 @@ mod tests {
             "call beside others: limit",
         ];
         assert_eq!(expected_drops(ROSTER, &parts).calls, due);
+    }
+
+    /// A11: slots and limits are those of the roster's form.
+    #[test]
+    fn the_two_forms() {
+        let parts = Parts {
+            calls: vec![
+                call(63, 5, b'a'),
+                call(64, 6, b'b'),
+                call(199, 7, b'c'),
+                call(200, 8, b'd'),
+            ],
+            connections: Vec::new(),
+        };
+        let outside = "call alone: slot 64 to 199 under form 1";
+        let due = [outside, outside, "call alone: slot 200 and above"];
+        assert_eq!(expected_drops(ROSTER, &parts).calls, due);
+        // The same bits are a limit of 8 in form 2.
+        let mut roster = ROSTER.to_vec();
+        roster[0] = 0x21;
+        assert_eq!(
+            expected_drops(&roster, &parts).calls,
+            ["call alone: slot 200 and above"]
+        );
+        *roster.last_mut().expect("a limit") = 2;
+        let due = ["call alone: slot 200 and above", "call beside others: limit"];
+        assert_eq!(expected_drops(&roster, &parts).calls, due);
     }
 
     #[test]

@@ -46,29 +46,32 @@ fn few_values(roster: &Roster, random: &mut Random) -> Vec<u8> {
     for record in &roster.records {
         pairs.extend([(1, record.address), (record.address, record.address)]);
     }
-    records(&pairs, random)
+    records(roster, &pairs, random)
 }
 
 fn one_pair(roster: &Roster, random: &mut Random) -> Vec<u8> {
-    records(&[(1, random.pick(&roster.records).address)], random)
+    let pair = (1, random.pick(&roster.records).address);
+    records(roster, &[pair], random)
 }
 
-fn records(pairs: &[(u32, u32)], random: &mut Random) -> Vec<u8> {
+fn records(roster: &Roster, pairs: &[(u32, u32)], random: &mut Random) -> Vec<u8> {
     let most = *random.pick(&[4, 20, 150]);
     let (calls, connections) = (random.between(0, most), random.between(0, 3 * most));
     let values = *random.pick(&[3, 10, 60]);
     let parts = Parts {
-        calls: (0..calls).map(|_| call(pairs, values, random)).collect(),
+        calls: (0..calls)
+            .map(|_| call(roster.total(), pairs, values, random))
+            .collect(),
         connections: (0..connections).map(|_| connection(pairs, values, random)).collect(),
     };
     parts.bytes()
 }
 
 /// One in ten breaks a rule alone.
-fn call(pairs: &[(u32, u32)], values: usize, random: &mut Random) -> Call {
+fn call(total: usize, pairs: &[(u32, u32)], values: usize, random: &mut Random) -> Call {
     let mut call = [0; CALL];
     let (endpoint, sender) = *random.pick(pairs);
-    set(&mut call, SLOT, random.below(64) as u32);
+    set(&mut call, SLOT, random.below(total) as u32);
     set(&mut call, ID, random.between(1, values) as u32);
     set(&mut call, ENDPOINT, endpoint);
     set(&mut call, SENDER, sender);
@@ -79,7 +82,7 @@ fn call(pairs: &[(u32, u32)], values: usize, random: &mut Random) -> Call {
     let last = if size == 1 { value + 1 } else { 1 };
     set(&mut call, (NAME.0 + size - 1, 1), last);
     match random.below(60) {
-        0 => set(&mut call, SLOT, 64),
+        0 => set(&mut call, SLOT, total as u32),
         1 => set(&mut call, ID, 0),
         2 => set(&mut call, SIZE, 0),
         3 => set(&mut call, SIZE, 0x81),
@@ -106,7 +109,9 @@ fn connection(pairs: &[(u32, u32)], values: usize, random: &mut Random) -> Conne
 fn largest(roster: &Roster, values: usize, random: &mut Random) -> Vec<u8> {
     let pair = (1, random.pick(&roster.records).address);
     let mut parts = Parts {
-        calls: (0..4095).map(|_| call(&[pair], values, random)).collect(),
+        calls: (0..4095)
+            .map(|_| call(roster.total(), &[pair], values, random))
+            .collect(),
         connections: (0..65535).map(|_| connection(&[pair], values, random)).collect(),
     };
     if values == parts.calls.len() {
@@ -129,7 +134,7 @@ fn duplicates(roster: &Roster, counts: &[usize], random: &mut Random) -> Vec<u8>
     let mut parts = Parts::default();
     for (number, &count) in counts.iter().enumerate() {
         let id = number as u32 + 1;
-        let mut call = call(&[pair], 1, random);
+        let mut call = call(roster.total(), &[pair], 1, random);
         set(&mut call, ID, id);
         set(&mut call, SIZE, 1);
         set(&mut call, (NAME.0, 3), u32::from(b'n') << 16);

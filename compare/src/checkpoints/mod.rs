@@ -17,7 +17,7 @@ mod writing;
 
 use crate::build::Roster;
 use crate::random::Random;
-use crate::rosters::{shaped, Shape};
+use crate::rosters::{shaped, some_form, Shape};
 use crate::trials::hex;
 use parts::Parts;
 use table_source::TableSource;
@@ -46,7 +46,7 @@ pub fn run(seed: u64, count: u64) -> Result<Tally, String> {
         made.read(&mut tally).map_err(place)?;
     }
     for (name, maker) in generated::LARGEST {
-        let roster = shaped(Shape::Random, &mut random);
+        let roster = shaped(some_form(&mut random), Shape::Random, &mut random);
         let made = Made::of(&roster, maker(&roster, &mut random));
         let place = |what| format!("seed {seed}, large checkpoint ({name}): {what}");
         made.read(&mut tally).map_err(place)?;
@@ -58,7 +58,7 @@ pub fn run(seed: u64, count: u64) -> Result<Tally, String> {
 fn kinds() -> impl Iterator<Item = &'static str> {
     let records = damage::of_records().map(|line| line.0);
     let bytes = damage::OF_BYTES.iter().map(|line| line.0);
-    let changes = rosters::CHANGES.iter().map(|line| line.0);
+    let changes = rosters::CHANGES.iter().chain(rosters::FORMS).map(|line| line.0);
     let makers = generated::MAKERS.iter().map(|line| line.0);
     let others = [AS_WRITTEN, REFUSED].into_iter();
     records.chain(bytes).chain(changes).chain(makers).chain(others)
@@ -85,9 +85,10 @@ impl Made {
         let mut made = Made::of(roster, checkpoint.to_vec());
         match random.below(100) {
             0..5 => made.kinds.push(AS_WRITTEN),
-            5..50 => made.damage_records(roster, random),
-            50..65 => made.damage_bytes(roster, random),
-            65..82 => made.change_roster(roster, random),
+            5..46 => made.damage_records(roster, random),
+            46..60 => made.damage_bytes(roster, random),
+            60..70 => made.change_roster(roster, random),
+            70..82 => made.change_form(roster, random),
             82..88 => made.refuse_roster(roster, random),
             _ => {
                 let (name, maker) = *random.pick(generated::MAKERS);
@@ -135,6 +136,17 @@ impl Made {
         self.roster = roster.bytes();
     }
 
+    /// The checkpoint as it was written, under a roster of the other form.
+    fn change_form(&mut self, roster: &Roster, random: &mut Random) {
+        let mut roster = roster.clone();
+        let mut ways = rosters::FORMS.to_vec();
+        random.shuffle(&mut ways);
+        if let Some((name, _)) = ways.iter().find(|way| way.1(&mut roster, random)) {
+            self.kinds.push(name);
+        }
+        self.roster = roster.bytes();
+    }
+
     fn refuse_roster(&mut self, roster: &Roster, random: &mut Random) {
         if random.chance(1, 2) {
             self.damage_bytes(roster, random);
@@ -145,7 +157,7 @@ impl Made {
     }
 
     fn read(&self, tally: &mut Tally) -> Result<(), String> {
-        trial::read(&self.roster, &self.checkpoint, tally).map_err(|what| {
+        let dropped = trial::read(&self.roster, &self.checkpoint, tally).map_err(|what| {
             let shown = &self.checkpoint[..self.checkpoint.len().min(20_000)];
             let (kinds, roster, checkpoint) = (self.kinds.join("; "), hex(&self.roster), hex(shown));
             let length = self.checkpoint.len();
@@ -153,6 +165,9 @@ impl Made {
         })?;
         tally.checkpoints += 1;
         self.kinds.iter().for_each(|name| tally.kind(name));
+        if self.kinds == [rosters::TO_FORM_1] {
+            tally.narrowed(&dropped);
+        }
         Ok(())
     }
 }

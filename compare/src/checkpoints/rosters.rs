@@ -1,8 +1,9 @@
 //! Rosters other than the one that the checkpoint was written under. All are acceptable.
 
 use crate::build::{Record, Roster};
+use crate::form;
 use crate::random::Random;
-use crate::rosters::{shaped, Shape};
+use crate::rosters::{shaped, some_form, ACCEPTABLE};
 
 /// Changes a roster with records, or says that it cannot.
 type Change = fn(&mut Roster, &mut Random) -> bool;
@@ -18,6 +19,52 @@ pub const CHANGES: &[(&str, Change)] = &[
     ("roster: another customer's address", another_address),
     ("roster: another altogether", another),
 ];
+
+/// Rosters of the other form.
+pub const FORMS: &[(&str, Change)] = &[
+    (TO_FORM_1, to_form_1),
+    ("roster: form 2 in place of 1", |roster, _| to_form_2(roster, false)),
+    ("roster: form 2 in place of 1, all limits 200", |roster, _| {
+        to_form_2(roster, true)
+    }),
+];
+
+/// What a copy that was written under form 2 loses under form 1 is counted.
+pub const TO_FORM_1: &str = "roster: form 1 in place of 2";
+
+/// Limits and guarantees are brought within what form 1 can have: cut off there, or all lowered alike.
+fn to_form_1(roster: &mut Roster, random: &mut Random) -> bool {
+    if roster.form != 2 {
+        return false;
+    }
+    let (wide, narrow) = (form::total(2), form::total(1));
+    roster.form = 1;
+    let mut left = narrow;
+    let (lowered, guaranteed) = (random.chance(1, 2), random.chance(1, 2));
+    for record in &mut roster.records {
+        let limit = usize::from(record.limit);
+        let limit = if lowered { limit * narrow / wide } else { limit };
+        let limit = limit.clamp(1, narrow);
+        let most = if guaranteed { left.min(limit) } else { 0 };
+        let guarantee = usize::from(record.guarantee).min(most);
+        (record.guarantee, record.limit) = (guarantee as u8, limit as u8);
+        left -= guarantee;
+    }
+    true
+}
+
+/// The same records, which form 2 can all have, or wider ones.
+fn to_form_2(roster: &mut Roster, widened: bool) -> bool {
+    if roster.form != 1 {
+        return false;
+    }
+    roster.form = 2;
+    if widened {
+        let limit = form::total(2) as u8;
+        roster.records.iter_mut().for_each(|record| record.limit = limit);
+    }
+    true
+}
 
 fn gone(roster: &mut Roster, random: &mut Random) -> bool {
     if roster.records.len() < 2 {
@@ -36,10 +83,10 @@ fn fresh_address(roster: &Roster, random: &mut Random) -> u32 {
     }
 }
 
-/// What the guarantees leave of the sixty-four.
+/// What the guarantees leave of the total.
 fn room(roster: &Roster) -> usize {
     let guarantees = roster.records.iter().map(|record| usize::from(record.guarantee));
-    64 - guarantees.sum::<usize>()
+    roster.total() - guarantees.sum::<usize>()
 }
 
 fn more(roster: &mut Roster, random: &mut Random) -> bool {
@@ -49,7 +96,7 @@ fn more(roster: &mut Roster, random: &mut Random) -> bool {
     let record = Record {
         address: fresh_address(roster, random),
         guarantee: random.between(0, room(roster)) as u8,
-        limit: 64,
+        limit: roster.total() as u8,
         spare: 0,
     };
     let place = random.between(0, roster.records.len());
@@ -114,7 +161,7 @@ fn another_address(roster: &mut Roster, random: &mut Random) -> bool {
 }
 
 fn another(roster: &mut Roster, random: &mut Random) -> bool {
-    let shape = *random.pick(&[Shape::One, Shape::Two, Shape::Eight, Shape::NoGuarantees, Shape::Random]);
-    *roster = shaped(shape, random);
+    let shape = *random.pick(&ACCEPTABLE);
+    *roster = shaped(some_form(random), shape, random);
     true
 }

@@ -2,7 +2,8 @@
 
 use crate::both;
 use crate::build::{Record, Roster};
-use crate::coverage::SITUATIONS;
+use crate::coverage::situations;
+use crate::form;
 use crate::full::Full;
 use crate::intent::{Mode, FILL, MODES};
 use crate::near::NEAR_MISSES;
@@ -15,8 +16,10 @@ use crate::trials::hex;
 use crate::values::Values;
 use second::table::Table;
 
-/// Messages from one table to the next, and tables of one roster.
-const STEPS: usize = 12;
+/// Messages from one table to the next: more where there are more calls to fill the table with. Tables of one roster.
+fn steps(form: u8) -> usize {
+    4 + form::total(form) / 8
+}
 const TABLES: usize = 30;
 
 pub struct TableSource {
@@ -32,14 +35,14 @@ pub struct TableSource {
 
 impl TableSource {
     pub fn new(random: &mut Random) -> Result<TableSource, String> {
-        let full = Full::new(random)?;
+        let full = Full::new(2, random)?;
         Ok(TableSource {
             values: full.values,
             table: full.fresh.first,
             mode: FILL,
             left: TABLES,
             full: full.full.first,
-            tally: Tally::new(SITUATIONS, &[], &[]),
+            tally: Tally::new(&situations(), &[], &[]),
         })
     }
 
@@ -49,7 +52,7 @@ impl TableSource {
             self.restart(random)?;
         }
         self.left -= 1;
-        for _ in 0..STEPS {
+        for _ in 0..steps(self.table.form as u8) {
             self.step(random)?;
         }
         if random.chance(1, 3) {
@@ -69,9 +72,9 @@ impl TableSource {
         let mut shape = random.weighted(&SHAPES);
         if shape == Shape::Refused {
             shape = Shape::Random;
-            self.full = Full::new(random)?.full.first;
+            self.full = Full::new(rosters::some_form(random), random)?.full.first;
         }
-        let roster = rosters::shaped(shape, random);
+        let roster = rosters::shaped(rosters::some_form(random), shape, random);
         self.values = Values::new(&roster, random);
         self.table = both::roster(&roster.bytes(), random)?.1;
         (self.mode, self.left) = (FILL, TABLES);
@@ -82,12 +85,12 @@ impl TableSource {
         let made = source::message(self.mode, 3, &self.values, &self.table, random, &mut self.tally);
         let done = both::message((&self.table, &self.table), &made.bytes, 128, random);
         let done = done.map_err(|what| format!("{what}\nmessage {}", hex(&made.bytes)))?;
-        self.table = done.first;
+        self.table = *done.first;
         Ok(())
     }
 }
 
-/// One of the near misses: calls in any slots, only the last place taken, S 64 and so on.
+/// One of the near misses: calls in any slots, only the last place taken, S at the total and so on.
 fn nearly_break(table: &mut Table, random: &mut Random) {
     let before = *table;
     let (_, change) = *random.pick(NEAR_MISSES);
@@ -96,7 +99,7 @@ fn nearly_break(table: &mut Table, random: &mut Random) {
     }
 }
 
-/// The roster that the table was made from. The empty table's has no records.
+/// The roster that the table was made from. The empty table's has no records, and no form.
 pub fn roster_of(table: &Table) -> Roster {
     let record = |one: &second::table::Customer| Record {
         address: one.address,
@@ -105,6 +108,7 @@ pub fn roster_of(table: &Table) -> Roster {
         spare: 0,
     };
     Roster {
+        form: table.form as u8,
         address: table.address,
         epoch: table.epoch,
         records: tables::listed(table).iter().map(record).collect(),

@@ -3,7 +3,6 @@
 use super::both::{self, Read};
 use super::expected::{expected_drops, Drops};
 use super::parts::Parts;
-use super::table_source::roster_of;
 use super::tally::Tally;
 use super::writing;
 use crate::both::{roster as read_roster, same_tables};
@@ -20,9 +19,10 @@ enum Due {
     Kept(Drops),
 }
 
-pub fn read(roster: &[u8], checkpoint: &[u8], tally: &mut Tally) -> Result<(), String> {
+/// The reasons for which records are dropped, if the checkpoint is read at all.
+pub fn read(roster: &[u8], checkpoint: &[u8], tally: &mut Tally) -> Result<Vec<&'static str>, String> {
     let (_, fresh, _) = read_roster(roster, &mut Random::new(0))?;
-    let due = due(roster, &fresh, checkpoint);
+    let due = due(roster, checkpoint);
     for salvages in [false, true] {
         let what = if salvages { "salvage" } else { "plain" };
         let read = both::read(salvages, roster, checkpoint).map_err(|error| format!("{what}, {error}"))?;
@@ -32,15 +32,16 @@ pub fn read(roster: &[u8], checkpoint: &[u8], tally: &mut Tally) -> Result<(), S
             writing::again(&read.table, roster).map_err(|error| format!("{what}, read and written: {error}"))?;
         }
     }
-    if let Due::Kept(drops) = due {
-        let reasons = drops.calls.iter().chain(&drops.connections);
-        tally.salvaged += u64::from(reasons.clone().count() > 0);
-        reasons.for_each(|reason| tally.dropped(reason));
-    }
-    Ok(())
+    let Due::Kept(Drops { mut calls, connections }) = due else {
+        return Ok(Vec::new());
+    };
+    calls.extend(connections);
+    tally.salvaged += u64::from(!calls.is_empty());
+    calls.iter().for_each(|reason| tally.dropped(reason));
+    Ok(calls)
 }
 
-fn due(roster: &[u8], fresh: &Table, checkpoint: &[u8]) -> Due {
+fn due(roster: &[u8], checkpoint: &[u8]) -> Due {
     let answer = form::roster(roster);
     if answer != 0 {
         return Due::Refused(answer);
@@ -48,7 +49,7 @@ fn due(roster: &[u8], fresh: &Table, checkpoint: &[u8]) -> Due {
     match Parts::of(checkpoint) {
         None => Due::Refused(70),
         Some(_) if checkpoint[0] >> 4 != 1 => Due::Refused(71),
-        Some(parts) => Due::Kept(expected_drops(&roster_of(fresh).records, &parts)),
+        Some(parts) => Due::Kept(expected_drops(roster, &parts)),
     }
 }
 
@@ -72,7 +73,7 @@ fn check(read: &Read, due: &Due, salvages: bool, fresh: &Table) -> Result<(), St
         return Err("the table breaks a rule".into());
     }
     let mut emptied = read.table;
-    (emptied.occupied, emptied.calls) = ([0; 2], fresh.calls);
+    (emptied.occupied, emptied.calls) = (fresh.occupied, fresh.calls);
     for (customer, record) in emptied.customers.iter_mut().zip(&fresh.customers) {
         (customer.endpoints, customer.places) = (record.endpoints, record.places);
     }

@@ -8,7 +8,7 @@ use crate::both::same_tables;
 use crate::breaks;
 use crate::build::Roster;
 use crate::random::Random;
-use crate::rosters::{shaped, Shape};
+use crate::rosters::{shaped, some_form, Shape};
 use crate::tables::{self, is_taken};
 use crate::trials::hex;
 use second::table::Table;
@@ -20,7 +20,7 @@ pub fn all(table: &Table, random: &mut Random, tally: &mut Tally) -> Result<(Ros
     let checkpoint = lengths(table, random, tally).map_err(place)?;
     broken(table, checkpoint.len(), random, tally).map_err(place)?;
     if roster.records.is_empty() {
-        roster = shaped(Shape::Random, random);
+        roster = shaped(some_form(random), Shape::Random, random);
     } else {
         again(table, &roster.bytes()).map_err(place)?;
         tally.round_trips += 1;

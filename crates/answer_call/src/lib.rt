@@ -19,14 +19,13 @@ use messages::message::CallRequest;
 use messages::status::C;
 use messages::status::D;
 use objects::fields::MessageId;
+use occupancy::lowest_free;
 use outcomes::outcome::Outcome;
 use outcomes::sending::send_notify;
 use table::layout::Words;
-use table::word::lowest_free;
 use table_words::head::address;
 use table_words::head::epoch;
 use table_words::head::next;
-use table_words::head::occupied;
 use update_call::slots::close_slot;
 use update_call::slots::open_slot;
 use update_call::slots::take_identifier;
@@ -72,7 +71,7 @@ pub fn open_call(t: &mut Words, msg: &[u8], q: CallRequest, reply: &mut [u8]) ->
     if share_used_up(t, q.sender) {
         return notified(t, msg, q, C, Answer::NoShare, reply);
     }
-    let slot = lowest_free(occupied(t));
+    let slot = lowest_free(t);
     open_slot(t, slot, msg, q);
     notified(t, msg, q, C, Answer::CallOpened, reply)
 }

@@ -92,9 +92,10 @@ tableWith next customer call = record {
   epoch = 0x010203;
   next = next;
   listed = 2;
-  occupied = 33;
+  form = 1;
+  occupied = 33 ∷ 0 ∷ 0 ∷ 0 ∷ [];
   customers = customer ∷ second ∷ replicate 6 noCustomer;
-  calls = alpha ∷ replicate 4 noCall ++ call ∷ replicate 58 noCall;
+  calls = alpha ∷ replicate 4 noCall ++ call ∷ replicate 194 noCall;
 }
 
 -- as it is written: places 0 and 2 of the call and place 1 of the customer are taken

@@ -26,17 +26,17 @@ pub record ReadingCase : Type 0 where
   pub outcome : ReadingResult
 
 -- X, 10.0.0.1, with guarantee 1 and limit 2
-abbrev X : ℕ
+abbrev pub X : ℕ
 X = 0x0a000001
 
-abbrev end : ℕ
+abbrev pub end : ℕ
 end = 0x0a000002
 
-abbrev rosterBytes : List ℕ
+abbrev pub rosterBytes : List ℕ
 rosterBytes = 0x11 ∷ bytes32 end ++ (0 ∷ 0 ∷ 7 ∷ []) ++ bytes32 X ++ bytes16 0x0208
 
 -- X's call of one long ID, under a short ID
-abbrev call : ℕ → Ids
+abbrev pub call : ℕ → Ids
 call short = record { endpoint = end; sender = X; short = short; long = 110 ∷ 49 ∷ [] }
 
 -- the call under one short ID in slot 0, under another in slot 1
@@ -44,7 +44,7 @@ abbrev twins : ℕ → ℕ → List ℕ
 twins first second = callBytes 0 (stored (call first)) ++ callBytes 1 (stored (call second))
 
 -- a connection by its Call ID and Tunnel ID
-abbrev connection : ℕ → ℕ → Held
+abbrev pub connection : ℕ → ℕ → Held
 connection short tunnel = record { call = short; lsp = record { endpoint = end; tunnel = tunnel; extended = X; sender = X; lspId = 1 } }
 
 abbrev checkpointWith : ℕ → ℕ → List Held → List ℕ
@@ -87,12 +87,12 @@ outcomeOf f = record {
   held = map (λ x. x .call) (held (f .table));
 }
 
-abbrev pub read : ReadingCase → ReadingResult
-read x = outcomeOf (restored (x .salvage) rosterBytes (x .checkpoint))
+abbrev pub readUnder : List ℕ → ReadingCase → ReadingResult
+readUnder roster x = outcomeOf (restored (x .salvage) roster (x .checkpoint))
 
 abbrev pub expected : ReadingCase → ReadingResult
 expected x = x .outcome
 
 -- the definitions give what each row says
 abbrev pub RowsHold : Type 0
-RowsHold = map read rows ≡ map expected rows
+RowsHold = map (readUnder rosterBytes) rows ≡ map expected rows

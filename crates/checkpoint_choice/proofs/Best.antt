@@ -1,6 +1,6 @@
 -- The arrays that step 2 of salvage goes by: one more place filled, and which records are kept by them.
 -- Assumes nothing.
-use Prim.Native.Nat.{ℕ, zero, suc, _+_, _<_}
+use Prim.Native.Nat.{ℕ, _+_, _<_}
 use native.Mathlib.Omega.{arith}
 use mathlib.Core.Path.{_≡_, refl, ap, _∙_}
 use mathlib.Core.List.{List}
@@ -10,11 +10,10 @@ use lib.ListN.{length, getD, set}
 use lib.Seq.{getD-set-same, getD-set-other}
 use borrow.Author.Tests.{eqb-true, eqb-false, ltb-true}
 use Rattle.lists.specs.Count.{bit}
-use Rattle.lists.specs.Below.{everyBelow}
 use Rattle.lists.proofs.Tests.{both}
 use Rattle.lists.proofs.Below.{every-same}
 use Rattle.table.specs.Table.{Table}
-use Rattle.table.specs.Total.{total}
+use Rattle.table.specs.Total.{totalOf}
 use Rattle.table.specs.Lists.{idsOf}
 use Rattle.table.specs.Rules.{sameLong}
 use Rattle.spec_checkpoint.specs.Layout.{callsIn, callRecord}
@@ -63,7 +62,7 @@ module _ (fresh : Table) (s sound named : List ℕ) (n : ℕ) (complete : n ≡ 
       (λ j. not (soundAlone fresh (callRecord s j) && sameLong (idsOf (callRecord s j .call)) (idsOf (callRecord s i .call)) && goesBefore s j i)) n
       (λ j b. ap not (better-at j b))))
 
-  -- a record that is kept names a slot of the table
-  pub best-inside : isBest s sound named n i ≡ true → callRecord s i .slot < total
+  -- a record that is kept names a slot below the total
+  pub best-inside : isBest s sound named n i ≡ true → callRecord s i .slot < totalOf fresh
   unfolding isBest soundAlone
-  best-inside h = ltb-true _ _ (both (ltb (callRecord s i .slot) total) _ (rw (sound-at i inside) at (both (eqb (getD sound i 0) 1) _ h .0)) .0)
+  best-inside h = ltb-true _ _ (both (ltb (callRecord s i .slot) (totalOf fresh)) _ (rw (sound-at i inside) at (both (eqb (getD sound i 0) 1) _ h .0)) .0)

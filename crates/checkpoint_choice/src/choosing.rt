@@ -25,7 +25,7 @@ use table_words::names::name_size;
 
 // 1 for each record that is sound alone: in a fresh table, which keeps the rules and has no call.
 pub fn sound_flags(t: &Words, s: &[u8], calls: usize) -> [u8; 4096]
-    requires { ⌜ (4 + 55 * calls ≤ length (now s)) × (calls ≤ 4096) × (rulesHold (tableOf (now t)) ≡ true) × (tableOf (now t) .occupied ≡ 0) ⌝ }
+    requires { ⌜ (4 + 55 * calls ≤ length (now s)) × (calls ≤ 4096) × (rulesHold (tableOf (now t)) ≡ true) × (tableOf (now t) .occupied ≡ replicate 4 0) ⌝ }
     ensures { λ m. ⌜ Filled (λ j. bit (soundAlone (tableOf (now (t .entry))) (callRecord (now (s .entry)) j))) m calls ⌝ }
 {
     let mut flags = [0u8; 4096];

@@ -6,7 +6,7 @@ use mathlib.Core.Path.{_≡_, sym, ap, _∙_}
 use mathlib.Core.List.{List}
 use mathlib.Core.Bool.{Bool, true, false, _||_}
 use lib.Dec.{eqb}
-use lib.ListN.{length}
+use lib.ListN.{length, replicate}
 use borrow.Author.Tests.{lt-ltb, le-ltb, eq-eqb, ne-eqb}
 use Rattle.numbers.specs.BigEndian.{Bytes}
 use Rattle.table.specs.declared.answer.RosterAnswer.{RosterAnswer}
@@ -62,7 +62,7 @@ module _ (salvage : Bool) (r s : List ℕ) (a : RosterAnswer) (n : ℕ) (fresh :
   pub fresh-rules : Bytes r → n ≡ 0 → rulesHold fresh ≡ true
   fresh-rules b h = rw (fresh-is h) (fresh-holds r b (promises.accepted (rosterAnswer r) (sym (number ∙ ap rosterNumber answer) ∙ h)))
 
-  pub fresh-free : n ≡ 0 → fresh .occupied ≡ 0
+  pub fresh-free : n ≡ 0 → fresh .occupied ≡ replicate 4 0
   unfolding freshTable
   fresh-free h = ap (λ t. t .occupied) (fresh-is h)
 

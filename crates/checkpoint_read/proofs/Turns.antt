@@ -9,10 +9,11 @@ use Rattle.lists.proofs.Tests.{both}
 use Rattle.table.specs.Table.{Table}
 use Rattle.table.specs.Word.{isUsed}
 use Rattle.table.specs.Lists.{Held}
-use Rattle.table.specs.Rules.{rulesHold}
+use Rattle.table.specs.Rules.{holds, slotsWithinTotal, rulesHold}
 use Rattle.spec_changes.specs.Connections.{added}
-use Rattle.spec_checkpoint.specs.Layout.{callRecord, heldAtByte}
-use Rattle.spec_checkpoint.specs.Salvage.{placed, keptByLongId, callFits, callKept, withCalls, connectionFits, withConnections}
+use Rattle.spec_changes.proofs.Tables.{added-words, added-form}
+use Rattle.spec_checkpoint.specs.Layout.{callRecord, connectionRecord, heldAtByte}
+use Rattle.spec_checkpoint.specs.Salvage.{placed, keptByLongId, callFits, callKept, withCalls, connectionFits, connectionKept, withConnections}
 use Rattle.checkpoint_choice.specs.Sized.{Sized}
 
 -- ---- calls
@@ -39,12 +40,34 @@ calls-rules fresh s h (suc i) = by (callKept fresh t s i) refl (calls-rules fres
     by true e k = both (not (isUsed (t .occupied) (callRecord s i .slot))) _ (both (keptByLongId fresh s i) (callFits t (callRecord s i)) e .1) .1
     by false e k = k
 
+-- and so does the roster's form, and with it the total: no record changes it
+pub calls-form : (fresh : Table) (s : List ℕ) (i : ℕ) → withCalls fresh s i .form ≡ fresh .form
+unfolding withCalls
+calls-form fresh s zero = refl
+calls-form fresh s (suc i) = by (callKept fresh (withCalls fresh s i) s i) (calls-form fresh s i)
+  where
+    by : (b : Bool) → withCalls fresh s i .form ≡ fresh .form → cond b (placed (withCalls fresh s i) (callRecord s i)) (withCalls fresh s i) .form ≡ fresh .form
+    by true e = e
+    by false e = e
+
 -- ---- connections
 
 pub connections-turn : (start : Table) (s : List ℕ) (n m k : ℕ) (t u : Table) (x : Held) → Sized s n m → t ≡ withConnections start s k
     → x ≡ heldAtByte s (4 + 55 * n + 18 * k) → u ≡ cond (connectionFits t x) (added t x) t → u ≡ withConnections start s (k + 1)
 unfolding withConnections
 connections-turn start s n m k t u x z e h q = rw (add-one k) (rw (e, h, z .calls) at q)
+
+-- a connection marks no slot, so that the marks stay within the total
+connection-within : (t : Table) (x : Held) → holds slotsWithinTotal t ≡ true → (b : Bool) → holds slotsWithinTotal (cond b (added t x) t) ≡ true
+connection-within t x h true = rw (added-words t x, added-form t x) h
+connection-within t x h false = h
+
+pub connections-within : (start : Table) (s : List ℕ) → holds slotsWithinTotal start ≡ true → (k : ℕ) → holds slotsWithinTotal (withConnections start s k) ≡ true
+unfolding withConnections
+connections-within start s h zero = h
+connections-within start s h (suc k) =
+    let t = withConnections start s k in
+    connection-within t (connectionRecord s k) (connections-within start s h k) (connectionKept t s k)
 
 pub connections-none : (start : Table) (s : List ℕ) → start ≡ withConnections start s 0
 unfolding withConnections

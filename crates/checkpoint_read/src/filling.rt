@@ -1,6 +1,7 @@
 // The table filled from a checkpoint's records, the calls first. The checkpoint has so many of them: its size has been
 // tested, and each count has its bits.
 ghost use mathlib.Core.Path.{_≡_};
+ghost use lib.ListN.{replicate};
 ghost use mathlib.Core.Bool.{true};
 ghost use Prim.Native.Nat.{_<_};
 ghost use Rattle.table.specs.Rules.{rulesHold};
@@ -18,7 +19,7 @@ use table::layout::Words;
 
 // Into a fresh table, which keeps the rules and has no call.
 pub fn with_calls(t: &mut Words, s: &[u8], calls: usize, connections: usize)
-    requires { ⌜ Sized (now s) calls connections × (connections < 65536) × (rulesHold (tableOf (now t)) ≡ true) × (tableOf (now t) .occupied ≡ 0) ⌝ }
+    requires { ⌜ Sized (now s) calls connections × (connections < 65536) × (rulesHold (tableOf (now t)) ≡ true) × (tableOf (now t) .occupied ≡ replicate 4 0) ⌝ }
     ensures { λ _. ⌜ tableOf (now (t .exit)) ≡ withCalls (tableOf (now (t .entry))) (now (s .entry)) calls ⌝ }
 {
     let sound = sound_flags(t, s, calls);

@@ -3,7 +3,7 @@
 ghost use mathlib.Core.Path.{_≡_};
 ghost use mathlib.Core.Bool.{true};
 ghost use Prim.Native.Nat.{_-_, _+_, _≤_, _<_};
-ghost use lib.ListN.{length};
+ghost use lib.ListN.{length, replicate};
 ghost use Rattle.table.specs.Rules.{rulesHold};
 ghost use Rattle.table.specs.Words.{tableOf};
 ghost use Rattle.spec_checkpoint.specs.Layout.{callsIn, connectionsIn};
@@ -14,10 +14,10 @@ use crate::filling::with_calls;
 use crate::filling::with_connections;
 use count_connections::connections_held;
 use numbers::big_endian::get16;
+use occupancy::open_calls;
 use rosters::read_roster;
 use table::answer::roster_number;
 use table::layout::Words;
-use table_words::head::open_calls;
 
 mod filling;
 
@@ -61,7 +61,7 @@ fn connections_in(s: &[u8]) -> usize
 
 // All records that are kept, in a fresh table: it keeps the rules and has no call.
 fn read_records(t: &mut Words, s: &[u8], calls: usize, connections: usize) -> Restored
-    requires { ⌜ Sized (now s) calls connections × (connections < 65536) × (rulesHold (tableOf (now t)) ≡ true) × (tableOf (now t) .occupied ≡ 0) ⌝ }
+    requires { ⌜ Sized (now s) calls connections × (connections < 65536) × (rulesHold (tableOf (now t)) ≡ true) × (tableOf (now t) .occupied ≡ replicate 4 0) ⌝ }
     ensures { λ r. ⌜ restoredAs r (tableOf (now (t .exit))) ≡ readInto (tableOf (now (t .entry))) (now (s .entry)) ⌝ }
 {
     with_calls(t, s, calls, connections);

@@ -10,7 +10,7 @@ use lib.ListN.{length, take, drop, getD, set, replicate, length-append, length-d
 use lib.Seq.{paste, paste-suc, take-all, length-take-le}
 use Rattle.numbers.specs.Buffer.{atFront}
 use Rattle.numbers.proofs.Buffer.{backAt, partAt, next}
-use Rattle.table.specs.Total.{total}
+use Rattle.table.specs.Total.{slots}
 use Rattle.table.specs.Lists.{callAt}
 use Rattle.table.specs.Words.{callStart, tableOf}
 use Rattle.table.proofs.Cells.{call-at}
@@ -43,7 +43,7 @@ unfolding atFront
 name-whole s at h = rw (length-take-le 32 (drop at s) (simp length-drop (omega arith)), append-nil)
 
 -- a slot has a name of 32 bytes
-pub name-long : (w : List ℕ) (i : ℕ) → i < total → length (callAt (tableOf w) i .name) ≡ 32
+pub name-long : (w : List ℕ) (i : ℕ) → i < slots → length (callAt (tableOf w) i .name) ≡ 32
 name-long w i h = rw (call-at w i h) (words.name-long w (callStart i + 8))
 
 pub regrouped : {x y : List ℕ} {r : ℕ} (s a b c : List ℕ) → Put (s ++ (a ++ b ++ c)) r x y → Put (s ++ a ++ b ++ c) r x y

@@ -6,7 +6,7 @@ ghost use mathlib.Core.List.{[], _∷_, _++_};
 ghost use Prim.Native.Nat.{_+_, _*_, _≤_, _<_};
 ghost use lib.ListN.{length};
 ghost use Rattle.numbers.specs.BigEndian.{bytes16, bytes24, bytes32};
-ghost use Rattle.table.specs.Total.{total};
+ghost use Rattle.table.specs.Total.{slots};
 ghost use Rattle.table.specs.Lists.{callAt};
 ghost use Rattle.table.specs.Words.{tableOf};
 ghost use Rattle.spec_checkpoint.specs.Layout.{headBytes, callBytes, connectionBytes};
@@ -54,7 +54,7 @@ fn put_before_name(out: &mut [u8], slot: u8, c: CallHead) -> usize
 
 // All 32 bytes of the name's room.
 fn put_name(out: &mut [u8], t: &Words, i: usize) -> usize
-    requires { ⌜ (i < total) × (32 ≤ length (now out)) ⌝ }
+    requires { ⌜ (i < slots) × (32 ≤ length (now out)) ⌝ }
     ensures { λ r. ⌜ (r ≡ 32) × Put (callAt (tableOf (now (t .entry))) i .name) r (now (out .entry)) (now (out .exit)) ⌝ }
 {
     let mut k: usize = 0;
@@ -78,7 +78,7 @@ fn put_behind_name(out: &mut [u8], c: CallHead) -> usize
 
 // The record of a slot's call.
 pub fn put_call(out: &mut [u8], t: &Words, i: usize) -> usize
-    requires { ⌜ (i < total) × CallFields (callAt (tableOf (now t)) i) × (55 ≤ length (now out)) ⌝ }
+    requires { ⌜ (i < slots) × CallFields (callAt (tableOf (now t)) i) × (55 ≤ length (now out)) ⌝ }
     ensures { λ r. ⌜ Put (callBytes i (callAt (tableOf (now (t .entry))) i)) r (now (out .entry)) (now (out .exit)) ⌝ }
 {
     let c = call_head(t, i);

@@ -10,9 +10,9 @@ use Rattle.table.specs.Stores.{withSlot, withOccupied}
 use Rattle.spec_checkpoint.specs.Layout.{Slotted}
 use Rattle.spec_checkpoint.specs.Salvage.{placed, callFits}
 
-pub placed-by : (t u v : Table) (r : Slotted) (slot occupied word : ℕ) (c : Call) → slot ≡ r .slot → occupied ≡ t .occupied → word ≡ withUsed occupied slot → c ≡ r .call
-    → u ≡ withSlot t (t .occupied) slot c → v ≡ withOccupied u word → v ≡ placed t r
-placed-by t u v r slot occupied word c s o w e f g = rw (g, f, w, o, e, s)
+pub placed-by : (t u v : Table) (r : Slotted) (slot : ℕ) (c : Call) → slot ≡ r .slot → c ≡ r .call → u ≡ withSlot t (t .occupied) slot c
+    → v ≡ withOccupied u (withUsed (u .occupied) slot) → v ≡ placed t r
+placed-by t u v r slot c s e f g = rw (g, f, e, s)
 
 -- what is left of the table t where the call is kept, and where it does not fit
 module _ (t : Table) (r : Slotted) (best fits : Bool) where
@@ -23,11 +23,11 @@ module _ (t : Table) (r : Slotted) (best fits : Bool) where
   call-dropped f h = rw (sym f ∙ h, and-false best)
 
 -- whether a call fits, where its slot is used and where it is free
-module _ (t : Table) (r : Slotted) (slot word : ℕ) (used : Bool) (here : slot ≡ r .slot) (is : word ≡ t .occupied) (bit : used ≡ isUsed word slot) where
+module _ (t : Table) (r : Slotted) (slot : ℕ) (used : Bool) (here : slot ≡ r .slot) (bit : used ≡ isUsed (t .occupied) slot) where
   pub slot-used : used ≡ true → false ≡ callFits t r
   unfolding callFits
-  slot-used u = rw (rw (bit, is, here) at u)
+  slot-used u = rw (rw (bit, here) at u)
 
   pub slot-free : (holds : Bool) → used ≡ false → holds ≡ rulesHold (placed t r) → holds ≡ callFits t r
   unfolding callFits
-  slot-free holds u h = rw (rw (bit, is, here) at u) h
+  slot-free holds u h = rw (rw (bit, here) at u) h

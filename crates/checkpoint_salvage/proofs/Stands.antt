@@ -12,13 +12,14 @@ use borrow.Author.Tests.{not-true}
 use Rattle.lists.proofs.Tests.{both}
 use Rattle.lists.proofs.Count.{has-false, false-has}
 use Rattle.table.specs.Table.{Call, Table}
-use Rattle.table.specs.Total.{totalOf}
+use Rattle.table.specs.Total.{slots, totalOf}
 use Rattle.table.specs.Word.{isUsed, withUsed}
 use Rattle.table.specs.Lists.{roster, idsOf, entries, callFour, heldIn}
 use Rattle.table.specs.Share.{isListed, guaranteeOf, callsOf, S}
 use Rattle.table.specs.Rules.{validIds, callFreeClear, rulesHold}
 use Rattle.table.proofs.Names.{alike}
 use Rattle.table.proofs.Slots.{used-here}
+use Rattle.table.proofs.Within.{total-most}
 use Rattle.spec_changes.proofs.Kept.{Kept, MayOpen, calls-open, calls-opened}
 use Rattle.spec_changes.proofs.Told.{roster-kept, rules-kept, kept-rules}
 use Rattle.spec_changes.proofs.Slot.{call-here}
@@ -54,7 +55,10 @@ share-left t c m = by (shareUsedUp (totalOf t) (roster t) (entries t) (c .sender
         full (inr n) = n (h .1)
     by false h = refl
 
-module _ (t : Table) (r : Slotted) (long : totalOf t ≤ length (t .calls)) (inside : r .slot < totalOf t) (was : isUsed (t .occupied) (r .slot) ≡ false) (none : heldIn (callFour (r .call)) ≡ []) (rules : rulesHold t ≡ true) where
+module _ (t : Table) (r : Slotted) (long : slots ≤ length (t .calls)) (four : length (t .occupied) ≡ 4) (within : r .slot < totalOf t) (was : isUsed (t .occupied) (r .slot) ≡ false) (none : heldIn (callFour (r .call)) ≡ []) (rules : rulesHold t ≡ true) where
+  inside : r .slot < slots
+  inside = omega (arith, total-most (t .form))
+
   kept : Kept t
   kept = rules-kept t rules
 
@@ -75,16 +79,16 @@ module _ (t : Table) (r : Slotted) (long : totalOf t ≤ length (t .calls)) (ins
       let new = both (not (longInUse (entries t) (idsOf (r .call)))) _ (ids .1) in
       let m = may (known .1) (not-true _ (share .1)) (not-true _ (new .0)) (not-true _ (new .1)) in
       kept-rules (placed t r)
-      (placed-kept t r long inside was none kept
-      (calls-open (totalOf t) (roster t) (entries t) (idsOf (r .call)) (kept .calls) m (r .slot) (entries (placed t r)) (roster-kept t (kept .accepted) .apart) (placed-entries t r long inside was none))
+      (placed-kept t r long four inside was none kept within
+      (calls-open (totalOf t) (roster t) (entries t) (idsOf (r .call)) (kept .calls) m (r .slot) (entries (placed t r)) (roster-kept t (kept .accepted) .apart) (placed-entries t r long four inside was none))
       (tidy .0) (tidy .1))
 
   -- where the rules hold
   passed : rulesHold (placed t r) ≡ true → standsBeside t (r .call) ≡ true
   passed h =
       let k = rules-kept (placed t r) h in
-      let m = calls-opened (totalOf t) (roster t) (entries t) (entries (placed t r)) (entryOf r) (roster-kept t (kept .accepted) .apart) (placed-entries t r long inside was none) (k .calls) in
-      let used = used-here (t .occupied) (r .slot) in
+      let m = calls-opened (totalOf t) (roster t) (entries t) (entries (placed t r)) (entryOf r) (roster-kept t (kept .accepted) .apart) (placed-entries t r long four inside was none) (k .calls) in
+      let used = used-here (t .occupied) (r .slot) (omega (arith, inside)) in
       let here = call-here t (withUsed (t .occupied) (r .slot)) (r .slot) (r .call) inside long in
       rw (
         rw here at (k .names (r .slot) inside used),

@@ -3,9 +3,9 @@
 ghost use mathlib.Core.Path.{_≡_};
 ghost use mathlib.Core.Bool.{cond, true, false, _&&_};
 ghost use Prim.Native.Nat.{_+_, _*_, _≤_, _<_};
-ghost use lib.ListN.{length};
+ghost use lib.ListN.{length, replicate};
 ghost use Rattle.objects.specs.Part.{Within};
-ghost use Rattle.table.specs.Total.{total};
+ghost use Rattle.table.specs.Total.{slots, totalOf};
 ghost use Rattle.table.specs.Word.{isUsed};
 ghost use Rattle.table.specs.Lists.{idsOf};
 ghost use Rattle.table.specs.Rules.{validIds, callFreeClear, rulesHold};
@@ -27,23 +27,21 @@ use numbers::search::zeros;
 use objects::fields::CallId;
 use objects::fields::MessageId;
 use objects::fields::Part;
-use table::layout::SLOTS;
+use occupancy::is_used;
+use occupancy::mark_used;
 use table::layout::Words;
-use table::word::is_used;
-use table::word::with_used;
+use table::total::total_for;
 use table_words::calls::put_slot;
-use table_words::head::occupied;
-use table_words::head::set_occupied;
+use table_words::head::form;
 
 // Record i's call in the slot that it names, one of the table's.
 fn place(t: &mut Words, s: &[u8], i: usize, slot: usize)
-    requires { ⌜ (4 + 55 * i + 55 ≤ length (now s)) × (slot ≡ callRecord (now s) i .slot) × (slot < total) ⌝ }
+    requires { ⌜ (4 + 55 * i + 55 ≤ length (now s)) × (slot ≡ callRecord (now s) i .slot) × (slot < slots) ⌝ }
     ensures { λ _. ⌜ tableOf (now (t .exit)) ≡ placed (tableOf (now (t .entry))) (callRecord (now (s .entry)) i) ⌝ }
 {
-    let word = with_used(occupied(t), slot);
     let call = record_words(s, i);
     put_slot(t, slot, &call);
-    set_occupied(t, word)
+    mark_used(t, slot)
 }
 
 // Record i's numbers are those of a call: a Call ID other than 0, a name of 1 to 32 bytes that ends in a byte that is
@@ -91,7 +89,7 @@ fn record_request(s: &[u8], i: usize) -> CallRequest
 // sender is listed and has room, and neither ID is in use in its pair. The table keeps its rules, so that no other is
 // asked again.
 fn stands(t: &Words, s: &[u8], i: usize) -> bool
-    requires { ⌜ (4 + 55 * i + 55 ≤ length (now s)) × (rulesHold (tableOf (now t)) ≡ true) × (callRecord (now s) i .slot < total) × (isUsed (tableOf (now t) .occupied) (callRecord (now s) i .slot) ≡ false) ⌝ }
+    requires { ⌜ (4 + 55 * i + 55 ≤ length (now s)) × (rulesHold (tableOf (now t)) ≡ true) × (callRecord (now s) i .slot < totalOf (tableOf (now t))) × (isUsed (tableOf (now t) .occupied) (callRecord (now s) i .slot) ≡ false) ⌝ }
     ensures { λ b. ⌜ b ≡ rulesHold (placed (tableOf (now (t .entry))) (callRecord (now (s .entry)) i)) ⌝ }
 {
     if !tidy(s, i) {
@@ -111,11 +109,11 @@ fn stands(t: &Words, s: &[u8], i: usize) -> bool
 
 // A record's call could stand in a fresh table by itself. No slot of a fresh table is used.
 pub fn sound_alone(t: &Words, s: &[u8], i: usize) -> bool
-    requires { ⌜ (4 + 55 * i + 55 ≤ length (now s)) × (rulesHold (tableOf (now t)) ≡ true) × (tableOf (now t) .occupied ≡ 0) ⌝ }
+    requires { ⌜ (4 + 55 * i + 55 ≤ length (now s)) × (rulesHold (tableOf (now t)) ≡ true) × (tableOf (now t) .occupied ≡ replicate 4 0) ⌝ }
     ensures { λ b. ⌜ b ≡ soundAlone (tableOf (now (t .entry))) (callRecord (now (s .entry)) i) ⌝ }
 {
     let slot = record_slot(s, i);
-    let inside = slot < SLOTS;
+    let inside = slot < total_for(form(t));
     if !inside {
         return false;
     }
@@ -124,10 +122,10 @@ pub fn sound_alone(t: &Words, s: &[u8], i: usize) -> bool
 
 // It fits beside those that are in the table.
 fn call_fits(t: &Words, s: &[u8], i: usize, slot: usize) -> bool
-    requires { ⌜ (4 + 55 * i + 55 ≤ length (now s)) × (rulesHold (tableOf (now t)) ≡ true) × (slot ≡ callRecord (now s) i .slot) × (slot < total) ⌝ }
+    requires { ⌜ (4 + 55 * i + 55 ≤ length (now s)) × (rulesHold (tableOf (now t)) ≡ true) × (slot ≡ callRecord (now s) i .slot) × (slot < totalOf (tableOf (now t))) ⌝ }
     ensures { λ b. ⌜ b ≡ callFits (tableOf (now (t .entry))) (callRecord (now (s .entry)) i) ⌝ }
 {
-    let used = is_used(occupied(t), slot);
+    let used = is_used(t, slot);
     if used {
         return false;
     }
@@ -135,9 +133,9 @@ fn call_fits(t: &Words, s: &[u8], i: usize, slot: usize) -> bool
 }
 
 // A record's call placed, where it is the one kept of its pair and long Call ID (`best`) and fits. Such a record names
-// one of the slots. The rules hold of a fresh table, and go on to hold with each call that fits.
+// a slot below the total. The rules hold of a fresh table, and go on to hold with each call that fits.
 pub fn with_call(t: &mut Words, best: bool, s: &[u8], i: usize)
-    requires { ⌜ (4 + 55 * i + 55 ≤ length (now s)) × (rulesHold (tableOf (now t)) ≡ true) × (best ≡ true → callRecord (now s) i .slot < total) ⌝ }
+    requires { ⌜ (4 + 55 * i + 55 ≤ length (now s)) × (rulesHold (tableOf (now t)) ≡ true) × (best ≡ true → callRecord (now s) i .slot < totalOf (tableOf (now t))) ⌝ }
     ensures { λ _. ⌜ tableOf (now (t .exit)) ≡ cond (best && callFits (tableOf (now (t .entry))) (callRecord (now (s .entry)) i)) (placed (tableOf (now (t .entry))) (callRecord (now (s .entry)) i)) (tableOf (now (t .entry))) ⌝ }
 {
     if !best {

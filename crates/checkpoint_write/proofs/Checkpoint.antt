@@ -10,7 +10,7 @@ use borrow.Author.Tests.{lt-ltb, le-ltb}
 use Rattle.numbers.specs.Buffer.{atFront}
 use Rattle.lists.specs.Below.{below}
 use Rattle.table.specs.Table.{Table}
-use Rattle.table.specs.Total.{totalOf}
+use Rattle.table.specs.Total.{slots}
 use Rattle.table.specs.Lists.{entries, heldAt, standaloneAt, held}
 use Rattle.table.specs.Rules.{rulesHold}
 use Rattle.spec_checkpoint.specs.Layout.{headBytes, checkpointOf}
@@ -32,17 +32,17 @@ checkpoint-length t =
 
 -- where a checkpoint fits, its parts do
 pub checkpoint-fits : (t : Table) (n : ℕ) → length (checkpointOf t) ≤ n
-    → 4 + length (callsBytes t) + length (heldBytes (below (heldAt t) (totalOf t))) + length (heldBytes (below (standaloneAt t) 8)) ≤ n
+    → 4 + length (callsBytes t) + length (heldBytes (below (heldAt t) slots)) + length (heldBytes (below (standaloneAt t) 8)) ≤ n
 checkpoint-fits t n h =
-    let a = below (heldAt t) (totalOf t) in
+    let a = below (heldAt t) slots in
     let b = below (standaloneAt t) 8 in
     omega (arith, checkpoint-length t, held-length (held t), ap length (held-append a b), length-append (heldBytes a) (heldBytes b))
 
 pub checkpoint-put : {r : ℕ} {x y : List ℕ} (t : Table) (calls connections : ℕ) → calls ≡ length (entries t) → connections ≡ length (held t)
-    → Put (headBytes calls connections ++ callsBytes t ++ heldBytes (below (heldAt t) (totalOf t)) ++ heldBytes (below (standaloneAt t) 8)) r x y → Put (checkpointOf t) r x y
+    → Put (headBytes calls connections ++ callsBytes t ++ heldBytes (below (heldAt t) slots) ++ heldBytes (below (standaloneAt t) 8)) r x y → Put (checkpointOf t) r x y
 checkpoint-put t calls connections e f w =
     let h = headBytes (length (entries t)) (length (held t)) ++ callsBytes t in
-    let a = below (heldAt t) (totalOf t) in
+    let a = below (heldAt t) slots in
     let b = below (standaloneAt t) 8 in
     rw (checkpoint-parts t, held-append a b, ← append-assoc h (heldBytes a) (heldBytes b)) (rw (e, f) at w)
 

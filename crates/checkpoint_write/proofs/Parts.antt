@@ -12,7 +12,7 @@ use Rattle.lists.specs.Below.{elementIf, listIf, below}
 use Rattle.lists.proofs.Below.{every-at}
 use Rattle.lists.proofs.Tests.{both}
 use Rattle.table.specs.Table.{Place, Table}
-use Rattle.table.specs.Total.{total}
+use Rattle.table.specs.Total.{slots}
 use Rattle.table.specs.Word.{isUsed}
 use Rattle.table.specs.Lists.{callAt, customerAt, idsOf, entries, Held, Four, callFour, customerFour, placeAt, isTaken, connectionAt, heldPlace, heldIn}
 use Rattle.table.specs.Rules.{placeValid, rulesHold}
@@ -65,10 +65,10 @@ blocks-length b x y (suc n) h =
 pub calls-length : (w : List ℕ) → length (callsBytes (tableOf w)) ≡ 55 * length (entries (tableOf w))
 unfolding callsBytes
 calls-length w =
-    blocks-length (isUsed (occupiedOf w)) (λ i. callBytes i (callAt (tableOf w) i)) (λ i. record { slot = i; ids = idsOf (callAt (tableOf w) i) }) total
+    blocks-length (isUsed (occupiedOf w)) (λ i. callBytes i (callAt (tableOf w) i)) (λ i. record { slot = i; ids = idsOf (callAt (tableOf w) i) }) slots
     (λ i l. call-size i (callAt (tableOf w) i) (name-long w i l))
 
-pub used-writable : (t : Table) → rulesHold t ≡ true → (i : ℕ) → i < total → isUsed (t .occupied) i ≡ true → CallFields (callAt t i)
+pub used-writable : (t : Table) → rulesHold t ≡ true → (i : ℕ) → i < slots → isUsed (t .occupied) i ≡ true → CallFields (callAt t i)
 used-writable t h i l u =
     let k = rules-kept t h in
     let n = ids-named (callAt t i) (k .names i l u) in
@@ -154,7 +154,7 @@ pub alike-fits : (f g : Four) → Alike f g → FourFits g → FourFits f
 alike-fits f g a w = record { call = rw (a .call) (w .call); valid = alike-valid f g a ∙ w .valid }
 
 module _ (t : Table) (h : rulesHold t ≡ true) where
-  pub call-fits : (i : ℕ) → i < total → isUsed (t .occupied) i ≡ true → FourFits (callFour (callAt t i))
+  pub call-fits : (i : ℕ) → i < slots → isUsed (t .occupied) i ≡ true → FourFits (callFour (callAt t i))
   call-fits i l u =
       let k = rules-kept t h in
       record { call = ids-named (callAt t i) (k .names i l u) .fits; valid = under-valid t k i l u }

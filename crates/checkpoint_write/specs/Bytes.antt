@@ -5,7 +5,7 @@ use mathlib.Core.List.{List}
 use mathlib.Core.Bool.{Bool, true}
 use Rattle.lists.specs.Below.{listIf, below}
 use Rattle.table.specs.Table.{Call, Table}
-use Rattle.table.specs.Total.{totalOf}
+use Rattle.table.specs.Total.{slots}
 use Rattle.table.specs.Word.{isUsed}
 use Rattle.table.specs.Lists.{callAt, Four, Held}
 use Rattle.table.specs.Rules.{fourValid}
@@ -16,7 +16,7 @@ slotBytes used i c = listIf used (callBytes i c)
 
 -- all calls of a checkpoint
 unfoldable pub callsBytes : Table → List ℕ
-callsBytes t = below (λ i. slotBytes (isUsed (t .occupied) i) i (callAt t i)) (totalOf t)
+callsBytes t = below (λ i. slotBytes (isUsed (t .occupied) i) i (callAt t i)) slots
 
 unfoldable pub heldBytes : List Held → List ℕ
 heldBytes l = joined connectionBytes l

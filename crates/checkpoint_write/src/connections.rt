@@ -5,7 +5,7 @@ ghost use mathlib.Core.Bool.{true};
 ghost use Prim.Native.Nat.{_≤_, _<_};
 ghost use lib.ListN.{length};
 ghost use Rattle.lists.specs.Below.{listIf, below};
-ghost use Rattle.table.specs.Total.{totalOf};
+ghost use Rattle.table.specs.Total.{slots};
 ghost use Rattle.table.specs.Lists.{heldPlace, heldIn, heldAt, standaloneAt};
 ghost use Rattle.table.specs.Rules.{rulesHold};
 ghost use Rattle.table.specs.Words.{tableOf};
@@ -13,18 +13,17 @@ ghost use Rattle.table_words.specs.Fours.{fourAtWord, FourInside};
 ghost use Rattle.checkpoint_records.specs.Put.{Put};
 ghost use Rattle.checkpoint_write.specs.Bytes.{heldBytes, FourFits};
 use checkpoint_records::write::put_connection;
+use occupancy::is_used;
 use table::layout::CUSTOMERS;
 use table::layout::PLACES;
 use table::layout::SLOTS;
 use table::layout::Words;
-use table::word::is_used;
 use table_words::fours::FourPlace;
 use table_words::fours::call_four;
 use table_words::fours::customer_four;
 use table_words::fours::endpoint_at;
 use table_words::fours::place_words;
 use table_words::head::listed;
-use table_words::head::occupied;
 
 // A connection's record, if its place is taken.
 fn put_place(out: &mut [u8], t: &Words, f: FourPlace, j: usize) -> usize
@@ -65,14 +64,13 @@ fn put_four(out: &mut [u8], t: &Words, used: bool, f: FourPlace) -> usize
 }
 
 pub(crate) fn put_under_calls(out: &mut [u8], t: &Words) -> usize
-    requires { ⌜ (rulesHold (tableOf (now t)) ≡ true) × (length (heldBytes (below (heldAt (tableOf (now t))) (totalOf (tableOf (now t))))) ≤ length (now out)) ⌝ }
-    ensures { λ r. ⌜ Put (heldBytes (below (heldAt (tableOf (now (t .entry)))) (totalOf (tableOf (now (t .entry)))))) r (now (out .entry)) (now (out .exit)) ⌝ }
+    requires { ⌜ (rulesHold (tableOf (now t)) ≡ true) × (length (heldBytes (below (heldAt (tableOf (now t))) slots)) ≤ length (now out)) ⌝ }
+    ensures { λ r. ⌜ Put (heldBytes (below (heldAt (tableOf (now (t .entry)))) slots)) r (now (out .entry)) (now (out .exit)) ⌝ }
 {
-    let word = occupied(t);
     let mut at: usize = 0;
     let mut i: usize = 0;
     while i < SLOTS {
-        at += put_four(&mut out[at..], t, is_used(word, i), call_four(t, i));
+        at += put_four(&mut out[at..], t, is_used(t, i), call_four(t, i));
         i += 1;
     }
     at

@@ -13,9 +13,9 @@ use crate::connections::put_with_no_call;
 use crate::slots::put_calls;
 use checkpoint_records::write::put_head;
 use count_connections::connections_held;
+use occupancy::open_calls;
 use rules::rules_hold;
 use table::layout::Words;
-use table_words::head::open_calls;
 
 mod connections;
 mod slots;
@@ -26,7 +26,9 @@ pub struct Written {
     pub length: usize,
 }
 
+// Whoever asks has tested the rules: so the calls can be counted by their marks.
 fn checkpoint_size(t: &Words) -> usize
+    requires { ⌜ rulesHold (tableOf (now t)) ≡ true ⌝ }
     ensures { λ r. ⌜ r ≡ length (checkpointOf (tableOf (now (t .entry)))) ⌝ }
 {
     4 + 55 * (open_calls(t) as usize) + 18 * connections_held(t)

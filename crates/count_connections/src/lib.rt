@@ -6,39 +6,37 @@ ghost use lib.ListN.{length};
 ghost use lib.Dec.{ltb};
 ghost use Rattle.lists.specs.Count.{countIf};
 ghost use Rattle.lists.specs.Below.{below};
-ghost use Rattle.table.specs.Total.{total, totalOf};
+ghost use Rattle.table.specs.Total.{slots};
 ghost use Rattle.table.specs.Word.{isUsed};
 ghost use Rattle.table.specs.Lists.{callAt, customerAt, callFour, customerFour, heldIn, heldAt, standaloneAt, held};
 ghost use Rattle.table.specs.Words.{tableOf};
 use fours::taken_in;
+use occupancy::is_used;
 use table::layout::CUSTOMERS;
 use table::layout::SLOTS;
 use table::layout::Words;
-use table::word::is_used;
 use table_words::fours::call_four;
 use table_words::fours::customer_four;
 use table_words::head::listed;
-use table_words::head::occupied;
 
 // One of the table's slots, used or free: a free one has none.
-fn taken_in_slot(t: &Words, word: u64, i: usize) -> usize
-    requires { ⌜ i < total ⌝ }
-    ensures { λ r. ⌜ (r ≡ cond (isUsed word i) (countIf (λ x. true) (heldIn (callFour (callAt (tableOf (now (t .entry))) i)))) 0) × (r ≤ 4) ⌝ }
+fn taken_in_slot(t: &Words, i: usize) -> usize
+    requires { ⌜ i < slots ⌝ }
+    ensures { λ r. ⌜ (r ≡ cond (isUsed (tableOf (now (t .entry)) .occupied) i) (countIf (λ x. true) (heldIn (callFour (callAt (tableOf (now (t .entry))) i)))) 0) × (r ≤ 4) ⌝ }
 {
-    if is_used(word, i) {
+    if is_used(t, i) {
         return taken_in(t, call_four(t, i));
     }
     0
 }
 
 pub fn held_under_calls(t: &Words) -> usize
-    ensures { λ r. ⌜ (r ≡ countIf (λ x. true) (below (heldAt (tableOf (now (t .entry)))) (totalOf (tableOf (now (t .entry)))))) × (r ≤ 256) ⌝ }
+    ensures { λ r. ⌜ (r ≡ countIf (λ x. true) (below (heldAt (tableOf (now (t .entry)))) slots)) × (r ≤ 800) ⌝ }
 {
-    let word = occupied(t);
     let mut n: usize = 0;
     let mut i: usize = 0;
     while i < SLOTS {
-        n += taken_in_slot(t, word, i);
+        n += taken_in_slot(t, i);
         i += 1;
     }
     n
@@ -70,7 +68,7 @@ pub fn held_standalone(t: &Words) -> usize
 }
 
 pub fn connections_held(t: &Words) -> usize
-    ensures { λ r. ⌜ (r ≡ length (held (tableOf (now (t .entry))))) × (r ≤ 288) ⌝ }
+    ensures { λ r. ⌜ (r ≡ length (held (tableOf (now (t .entry))))) × (r ≤ 832) ⌝ }
 {
     held_under_calls(t) + held_standalone(t)
 }

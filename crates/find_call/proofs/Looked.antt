@@ -8,7 +8,7 @@ use Rattle.lists.specs.Below.{below, placeOf}
 use Rattle.lists.proofs.Below.{has-none, has-element, has-turn, has-turns}
 use Rattle.lists.proofs.Search.{place-none, place-turn, place-rest}
 use Rattle.table.specs.Table.{Call, Table}
-use Rattle.table.specs.Total.{total}
+use Rattle.table.specs.Total.{slots}
 use Rattle.table.specs.Word.{isUsed, FreeFrom}
 use Rattle.table.specs.Lists.{Ids, Entry, callAt, idsOf, openAt, callFour, heldIn, heldAt}
 use Rattle.table.specs.Rules.{sameShort, sameLong}
@@ -53,10 +53,10 @@ module _ (t : Table) (c : Ids) where
       })
 
   -- the slots behind the last used one say nothing
-  pub look-all : (n : ℕ) (w : Look) → n ≤ total → FreeFrom (t .occupied) n → Looked t c n w → w ≡ lookOf t c
+  pub look-all : (n : ℕ) (w : Look) → n ≤ slots → FreeFrom (t .occupied) n → Looked t c n w → w ≡ lookOf t c
   unfolding lookOf
   look-all n w l free h =
-      rw (open-rest t n l free, held-rest t n l free, place-rest (openAt t) (isCall c) n total l (open-free t n free), ← (h .known), ← (h .long), ← (h .short), ← (h .busy), ← (h .slot))
+      rw (open-rest t n l free, held-rest t n l free, place-rest (openAt t) (isCall c) n slots l (open-free t n free), ← (h .known), ← (h .long), ← (h .short), ← (h .busy), ← (h .slot))
 
 module _ (w : Look) (i : ℕ) (used : Bool) (d : Call) (c : Ids) where
   -- whether a slot has the long ID, the short ID, and connections under that

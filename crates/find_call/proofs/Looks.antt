@@ -6,7 +6,7 @@ use mathlib.Core.Bool.{true}
 use Rattle.lists.specs.Count.{has}
 use Rattle.lists.proofs.Count.{has-true}
 use Rattle.table.specs.Table.{Table}
-use Rattle.table.specs.Total.{totalOf}
+use Rattle.table.specs.Total.{slots}
 use Rattle.table.specs.Lists.{Ids, entries, held}
 use Rattle.spec_changes.specs.Calls.{isCall, slotOf}
 use Rattle.spec_changes.specs.Connections.{isUnder}
@@ -34,7 +34,7 @@ found t c k e = record {
 }
 
 -- an open call's slot is one of the table's
-pub slot-inside : (t : Table) (c : Ids) (k : Look) → k ≡ lookOf t c → k .known ≡ true → k .slot < totalOf t
+pub slot-inside : (t : Table) (c : Ids) (k : Look) → k ≡ lookOf t c → k .known ≡ true → k .slot < slots
 slot-inside t c k e h =
     let f = found t c k e in
     rw (f .slot) (found-slot t (isCall c) (has-true (isCall c) (entries t) (sym (f .known) ∙ h)) .0)

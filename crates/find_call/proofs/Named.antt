@@ -5,7 +5,7 @@ use mathlib.Core.Path.{_≡_}
 use mathlib.Core.Bool.{true}
 use Rattle.numbers.specs.Search.{zerosAt}
 use Rattle.table.specs.Table.{Table}
-use Rattle.table.specs.Total.{total}
+use Rattle.table.specs.Total.{slots}
 use Rattle.table.specs.Word.{isUsed}
 use Rattle.table.specs.Lists.{callAt}
 use Rattle.table.specs.Rules.{rulesHold}
@@ -14,7 +14,7 @@ use Rattle.spec_changes.proofs.Told.{rules-kept}
 use Rattle.spec_changes.proofs.Valid.{ids-named}
 pub use Rattle.table_words.proofs.Padded.{name-room}
 
-module _ (t : Table) (i : ℕ) (l : i < total) (r : rulesHold t ≡ true) (u : isUsed (t .occupied) i ≡ true) where
+module _ (t : Table) (i : ℕ) (l : i < slots) (r : rulesHold t ≡ true) (u : isUsed (t .occupied) i ≡ true) where
   pub open-size : callAt t i .size ≤ 32
   open-size = ids-named (callAt t i) (rules-kept t r .names i l u) .most
 

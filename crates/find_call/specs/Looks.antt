@@ -4,7 +4,7 @@ use mathlib.Core.Bool.{Bool, cond, not, _&&_, _||_}
 use Rattle.lists.specs.Count.{has}
 use Rattle.lists.specs.Below.{below}
 use Rattle.table.specs.Table.{Call, Table}
-use Rattle.table.specs.Total.{totalOf}
+use Rattle.table.specs.Total.{slots}
 use Rattle.table.specs.Lists.{Ids, idsOf, entries, callFour, heldIn, heldAt}
 use Rattle.table.specs.Rules.{sameShort, sameLong}
 use Rattle.spec_changes.specs.Calls.{isCall, slotOf}
@@ -17,7 +17,7 @@ lookOf t c = record {
   known = isOpen (entries t) c;
   long = longInUse (entries t) c;
   short = shortInUse (entries t) c;
-  busy = has (isUnder c) (below (heldAt t) (totalOf t));
+  busy = has (isUnder c) (below (heldAt t) slots);
   slot = slotOf t (isCall c);
 }
 

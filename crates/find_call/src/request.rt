@@ -5,7 +5,7 @@ ghost use Prim.Native.Nat.{_<_, _≤_};
 ghost use lib.ListN.{replicate};
 ghost use Rattle.numbers.specs.Buffer.{atFront};
 ghost use Rattle.objects.specs.Part.{partOf, Within};
-ghost use Rattle.table.specs.Total.{total};
+ghost use Rattle.table.specs.Total.{slots};
 ghost use Rattle.table.specs.Word.{isUsed};
 ghost use Rattle.table.specs.Lists.{callAt};
 ghost use Rattle.table.specs.Rules.{rulesHold};
@@ -15,13 +15,12 @@ ghost use Rattle.find_call.specs.Looks.{lookOf, lookWith};
 use fours::has_taken;
 use lists::select;
 use messages::message::CallRequest;
+use occupancy::is_used;
+use occupancy::used_below;
 use table::layout::Words;
-use table::word::is_used;
-use table::word::used_below;
 use table_words::calls::call_head;
 use table_words::calls::is_named;
 use table_words::fours::call_four;
-use table_words::head::occupied;
 use table_words::ids::is_call;
 use table_words::ids::is_size;
 use table_words::names::name_words;
@@ -47,7 +46,7 @@ fn looked(
     q: CallRequest,
     name: &[u32; 8],
 ) -> Look
-    requires { ⌜ (i < total) × (used ≡ isUsed (tableOf (now t) .occupied) i) × (rulesHold (tableOf (now t)) ≡ true) × Within (now msg) (q .name) × (q .name .size ≤ 32) × (nameAtWord (now name) 0 ≡ atFront (partOf (now msg) (q .name)) (replicate 32 0)) ⌝ }
+    requires { ⌜ (i < slots) × (used ≡ isUsed (tableOf (now t) .occupied) i) × (rulesHold (tableOf (now t)) ≡ true) × Within (now msg) (q .name) × (q .name .size ≤ 32) × (nameAtWord (now name) 0 ≡ atFront (partOf (now msg) (q .name)) (replicate 32 0)) ⌝ }
     ensures { λ r. ⌜ r ≡ lookWith look i used (callAt (tableOf (now (t .entry))) i) (idsIn (now (msg .entry)) q) ⌝ }
 {
     let c = call_head(t, i);
@@ -73,8 +72,7 @@ pub fn look_up(t: &Words, msg: &[u8], q: CallRequest) -> Look
     requires { ⌜ (rulesHold (tableOf (now t)) ≡ true) × Within (now msg) (q .name) × (q .name .size ≤ 32) ⌝ }
     ensures { λ r. ⌜ r ≡ lookOf (tableOf (now (t .entry))) (idsIn (now (msg .entry)) q) ⌝ }
 {
-    let word = occupied(t);
-    let n = used_below(word);
+    let n = used_below(t);
     let name = name_words(msg, q.name.at, q.name.size);
     let mut look = Look {
         known: false,
@@ -85,7 +83,7 @@ pub fn look_up(t: &Words, msg: &[u8], q: CallRequest) -> Look
     };
     let mut i: usize = 0;
     while i < n {
-        look = looked(look, is_used(word, i), t, i, msg, q, &name);
+        look = looked(look, is_used(t, i), t, i, msg, q, &name);
         i += 1;
     }
     look

@@ -8,16 +8,16 @@ ghost use Rattle.spec_calls.specs.CallRules.{shareUsedUp};
 use lists::number_if;
 use lists::one_if;
 use lists::select;
+use occupancy::is_used;
+use occupancy::used_below;
 use rule_limits::share_sums;
 use table::layout::CUSTOMERS;
-use table::layout::TOTAL;
 use table::layout::Words;
-use table::word::is_used;
-use table::word::used_below;
+use table::total::total_for;
 use table_words::calls::call_head;
 use table_words::customers::customer_head;
+use table_words::head::form;
 use table_words::head::listed;
-use table_words::head::occupied;
 
 // What the roster says of an address: whether it is listed, its guarantee and its limit.
 pub struct Listing {
@@ -53,13 +53,12 @@ pub fn listing_of(t: &Words, address: u32) -> Listing
 fn calls_of(t: &Words, address: u32) -> usize
     ensures { λ r. ⌜ r ≡ callsOf (entries (tableOf (now (t .entry)))) address ⌝ }
 {
-    let word = occupied(t);
-    let n = used_below(word);
+    let n = used_below(t);
     let mut calls: usize = 0;
     let mut i: usize = 0;
     while i < n {
         let c = call_head(t, i);
-        calls += one_if(is_used(word, i) & (c.sender == address));
+        calls += one_if(is_used(t, i) & (c.sender == address));
         i += 1;
     }
     calls
@@ -72,5 +71,5 @@ pub fn share_used_up(t: &Words, sender: u32) -> bool
     let m = listing_of(t, sender);
     let calls = calls_of(t, sender);
     let s = share_sums(t);
-    (calls == m.limit) | ((m.guarantee <= calls) & (s.sum == TOTAL))
+    (calls == m.limit) | ((m.guarantee <= calls) & (s.sum == total_for(form(t))))
 }

@@ -6,7 +6,7 @@ use mathlib.Core.Path.{_≡_, refl, sym}
 use mathlib.Core.Bool.{Bool, false, cond, not, _&&_, _||_, or-false}
 use Rattle.lists.proofs.Below.{has-element}
 use Rattle.table.specs.Table.{Call, Table}
-use Rattle.table.specs.Total.{total}
+use Rattle.table.specs.Total.{slots}
 use Rattle.table.specs.Word.{isUsed, FreeFrom}
 use Rattle.table.specs.Lists.{callAt, idsOf, openAt, Held, callFour, heldIn, heldAt}
 use Rattle.table.proofs.Slots.{open-free, held-free}
@@ -33,11 +33,11 @@ module _ (t : Table) (x : Held) where
   })
 
   -- the slots behind the last used one say nothing
-  pub look-all : (n : ℕ) (w : UnderLook) → n ≤ total → FreeFrom (t .occupied) n → LookedUnder t x n w → w ≡ underLookOf t x
+  pub look-all : (n : ℕ) (w : UnderLook) → n ≤ slots → FreeFrom (t .occupied) n → LookedUnder t x n w → w ≡ underLookOf t x
   unfolding underLookOf
   look-all n w l free h =
-      let k = looked-rest (heldAt t) x total l (held-free t n free) (h .held) in
-      let s = sought-rest (openAt t) (isCallOf x) total l (open-free t n free) (h .call) in
+      let k = looked-rest (heldAt t) x slots l (held-free t n free) (h .held) in
+      let s = sought-rest (openAt t) (isCallOf x) slots l (open-free t n free) (h .call) in
       rw (← (k .other), ← (k .held), ← (k .four), ← (s .has), ← (s .place))
 
 module _ (w : UnderLook) (i : ℕ) (used : Bool) (c : Call) (x : Held) where

@@ -9,7 +9,7 @@ use Rattle.lists.specs.Count.{countIf, has}
 use Rattle.lists.specs.Below.{below, placeOf}
 use Rattle.lists.proofs.Count.{has-true, true-has, has-append, count-append}
 use Rattle.table.specs.Table.{Table}
-use Rattle.table.specs.Total.{totalOf}
+use Rattle.table.specs.Total.{slots}
 use Rattle.table.specs.Word.{isUsed}
 use Rattle.table.specs.Lists.{customerAt, callAt, entries, Lsp, Held, callFour, customerFour, heldIn, heldAt, standaloneAt, held}
 use Rattle.table.specs.Rules.{isLsp}
@@ -34,16 +34,16 @@ pub record Seen (t : Table) (x : Held) (u : UnderLook) (l : StandaloneLook) : Ty
 pub seen : (t : Table) (x : Held) (u : UnderLook) (l : StandaloneLook) → u ≡ underLookOf t x → l ≡ standaloneLookOf t x → Seen t x u l
 unfolding underLookOf standaloneLookOf
 seen t x u l e f = record {
-  other = rw (e, f) (sym (has-append (underOther x) (below (heldAt t) (totalOf t)) (below (standaloneAt t) 8)));
-  here = rw (e, f) (sym (has-append (isLsp (x .lsp)) (below (heldAt t) (totalOf t)) (below (standaloneAt t) 8)));
-  four = rw (e, f) (sym (count-append (sameFour x) (below (heldAt t) (totalOf t)) (below (standaloneAt t) 8)));
+  other = rw (e, f) (sym (has-append (underOther x) (below (heldAt t) slots) (below (standaloneAt t) 8)));
+  here = rw (e, f) (sym (has-append (isLsp (x .lsp)) (below (heldAt t) slots) (below (standaloneAt t) 8)));
+  four = rw (e, f) (sym (count-append (sameFour x) (below (heldAt t) slots) (below (standaloneAt t) 8)));
   missing = λ none n. rw (n, e);
   slot = rw e;
 }
 
 module _ (t : Table) (x : Held) (u : UnderLook) (e : u ≡ underLookOf t x) where
   -- the call of a connection that has one, and the connection, stand in one of the slots
-  pub call-inside : (none : Bool) → (not none && not (u .known)) ≡ false → none ≡ false → u .slot < totalOf t
+  pub call-inside : (none : Bool) → (not none && not (u .known)) ≡ false → none ≡ false → u .slot < slots
   unfolding underLookOf
   call-inside none h n =
       let known : has (isCallOf x) (entries t) ≡ true = rw e at (not-false (u .known) (rw n at h)) in
@@ -52,20 +52,20 @@ module _ (t : Table) (x : Held) (u : UnderLook) (e : u ≡ underLookOf t x) wher
 -- ---- where a connection is held
 
 module _ (t : Table) (x : Lsp) (u : Found) (e : u ≡ underFoundOf t x) where
-  pub under-here : u .held ≡ true → (u .at < totalOf t) × (has (isLsp x) (heldIn (callFour (callAt t (u .at)))) ≡ true)
+  pub under-here : u .held ≡ true → (u .at < slots) × (has (isLsp x) (heldIn (callFour (callAt t (u .at)))) ≡ true)
   unfolding underFoundOf
   under-here h =
-      let here : has (isLsp x) (below (heldAt t) (totalOf t)) ≡ true = rw e at h in
-      let f = found-row (isLsp x) (isUsed (t .occupied)) (λ i. heldIn (callFour (callAt t i))) (totalOf t) (has-true (isLsp x) (below (heldAt t) (totalOf t)) here) in
-      rw e (f .0, true-has (isLsp x) (heldIn (callFour (callAt t (placeOf (heldAt t) (isLsp x) (totalOf t))))) (f .2))
+      let here : has (isLsp x) (below (heldAt t) slots) ≡ true = rw e at h in
+      let f = found-row (isLsp x) (isUsed (t .occupied)) (λ i. heldIn (callFour (callAt t i))) slots (has-true (isLsp x) (below (heldAt t) slots) here) in
+      rw e (f .0, true-has (isLsp x) (heldIn (callFour (callAt t (placeOf (heldAt t) (isLsp x) slots)))) (f .2))
 
-  pub under-held : (u .held ≡ has (isLsp x) (below (heldAt t) (totalOf t))) × (u .at ≡ placeOf (heldAt t) (isLsp x) (totalOf t))
+  pub under-held : (u .held ≡ has (isLsp x) (below (heldAt t) slots)) × (u .at ≡ placeOf (heldAt t) (isLsp x) slots)
   unfolding underFoundOf
   under-held = (rw e, rw e)
 
   pub under-is-held : u .held ≡ true → has (isLsp x) (held t) ≡ true
   under-is-held h =
-      has-append (isLsp x) (below (heldAt t) (totalOf t)) (below (standaloneAt t) 8)
+      has-append (isLsp x) (below (heldAt t) slots) (below (standaloneAt t) 8)
       ∙ ap (λ b. b || has (isLsp x) (below (standaloneAt t) 8)) (sym (under-held .0) ∙ h)
 
 -- with a customer
@@ -84,4 +84,4 @@ module _ (t : Table) (x : Lsp) (l : Found) (e : l ≡ standaloneFoundOf t x) whe
 -- both searches together
 pub found-held : (t : Table) (x : Lsp) (u l : Found) → u ≡ underFoundOf t x → l ≡ standaloneFoundOf t x → (u .held || l .held) ≡ has (isLsp x) (held t)
 found-held t x u l e f =
-    rw (under-held t x u e .0, standalone-held t x l f .0) (sym (has-append (isLsp x) (below (heldAt t) (totalOf t)) (below (standaloneAt t) 8)))
+    rw (under-held t x u e .0, standalone-held t x l f .0) (sym (has-append (isLsp x) (below (heldAt t) slots) (below (standaloneAt t) 8)))

@@ -1,6 +1,6 @@
 -- What a loop over slots or customers finds: after each turn it knows of one place more.
 -- Assumes nothing.
-use Prim.Native.Nat.{ℕ, _+_, _≤_}
+use Prim.Native.Nat.{ℕ, _+_, _≤_, _<_}
 use mathlib.Core.Path.{_≡_, sym, _∙_}
 use mathlib.Core.List.{List, []}
 use mathlib.Core.Bool.{Bool, false, cond, not, _&&_, _||_}
@@ -30,7 +30,7 @@ module _ {A : Type 0} (f : ℕ → List A) (p : A → Bool) where
   }
 
   -- places from n on that have nothing need not be searched
-  pub sought-rest : {n at : ℕ} {found : Bool} (m : ℕ) → n ≤ m → ((i : ℕ) → n ≤ i → f i ≡ []) → Sought n found at → Sought m found at
+  pub sought-rest : {n at : ℕ} {found : Bool} (m : ℕ) → n ≤ m → ((i : ℕ) → n ≤ i → i < m → f i ≡ []) → Sought n found at → Sought m found at
   sought-rest {n} m l free k = record { has = rw (below-rest f n m l free) (k .has); place = rw (place-rest f p n m l free) (k .place) }
 
 module _ (f : ℕ → List Held) (x : Held) where
@@ -53,5 +53,5 @@ module _ (f : ℕ → List Held) (x : Held) where
     four = count-turns f (sameFour x) n four m used l e (k .four) me;
   }
 
-  pub looked-rest : {n four : ℕ} {other held : Bool} (m : ℕ) → n ≤ m → ((i : ℕ) → n ≤ i → f i ≡ []) → Looked n other held four → Looked m other held four
+  pub looked-rest : {n four : ℕ} {other held : Bool} (m : ℕ) → n ≤ m → ((i : ℕ) → n ≤ i → i < m → f i ≡ []) → Looked n other held four → Looked m other held four
   looked-rest {n} m l free k = let e = below-rest f n m l free in record { other = rw e (k .other); held = rw e (k .held); four = rw e (k .four) }

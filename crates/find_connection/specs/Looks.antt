@@ -7,7 +7,7 @@ use mathlib.Core.Bool.{Bool, cond, not, _&&_, _||_}
 use Rattle.lists.specs.Count.{countIf, has}
 use Rattle.lists.specs.Below.{below, placeOf}
 use Rattle.table.specs.Table.{Call, Table}
-use Rattle.table.specs.Total.{totalOf}
+use Rattle.table.specs.Total.{slots}
 use Rattle.table.specs.Lists.{idsOf, entries, Lsp, Held, callFour, heldIn, heldAt, standaloneAt}
 use Rattle.table.specs.Rules.{isLsp}
 use Rattle.spec_changes.specs.Calls.{slotOf}
@@ -20,8 +20,8 @@ use Rattle.find_connection.specs.declared.standalone.StandaloneLook.{Sta
 -- where a connection stands: under which slot's call, with which customer
 unfoldable pub underFoundOf : Table → Lsp → Found
 underFoundOf t x = record {
-  held = has (isLsp x) (below (heldAt t) (totalOf t));
-  at = placeOf (heldAt t) (isLsp x) (totalOf t);
+  held = has (isLsp x) (below (heldAt t) slots);
+  at = placeOf (heldAt t) (isLsp x) slots;
 }
 
 unfoldable pub standaloneFoundOf : Table → Lsp → Found
@@ -38,9 +38,9 @@ Matched used x l other held four =
 
 unfoldable pub underLookOf : Table → Held → UnderLook
 underLookOf t x = record {
-  other = has (underOther x) (below (heldAt t) (totalOf t));
-  held = has (isLsp (x .lsp)) (below (heldAt t) (totalOf t));
-  four = countIf (sameFour x) (below (heldAt t) (totalOf t));
+  other = has (underOther x) (below (heldAt t) slots);
+  held = has (isLsp (x .lsp)) (below (heldAt t) slots);
+  four = countIf (sameFour x) (below (heldAt t) slots);
   known = has (isCallOf x) (entries t);
   slot = slotOf t (isCallOf x);
 }

@@ -1,7 +1,7 @@
 // The connections under the open calls.
 ghost use mathlib.Core.Path.{_≡_};
 ghost use Prim.Native.Nat.{_+_, _*_, _≤_, _<_};
-ghost use Rattle.table.specs.Total.{total};
+ghost use Rattle.table.specs.Total.{slots};
 ghost use Rattle.table.specs.Lists.{callAt, idsOf};
 ghost use Rattle.table.specs.Words.{tableOf};
 ghost use Rattle.spec_changes.specs.Connections.{isNamed};
@@ -14,25 +14,23 @@ use lists::select;
 use messages::message::Connection;
 use messages::message::Lsp;
 use objects::fields::CallId;
+use occupancy::is_used;
+use occupancy::used_below;
 use table::layout::Words;
-use table::word::is_used;
-use table::word::used_below;
 use table_words::calls::call_head;
 use table_words::fours::call_four;
-use table_words::head::occupied;
 use table_words::ids::is_call;
 
 // The slot under whose call a connection stands.
 pub fn find_under(t: &Words, x: Lsp) -> Found
     ensures { λ r. ⌜ r ≡ underFoundOf (tableOf (now (t .entry))) (lspOf x) ⌝ }
 {
-    let word = occupied(t);
-    let n = used_below(word);
+    let n = used_below(t);
     let mut held = false;
     let mut at: usize = 0;
     let mut i: usize = 0;
     while i < n {
-        let used = is_used(word, i);
+        let used = is_used(t, i);
         let here = holds(used, t, call_four(t, i), x);
         at = select(here & !held, i, at);
         held = held | here;
@@ -53,7 +51,7 @@ pub struct UnderLook {
 
 // The slot's call has this Call ID, and is of this pair. A slot is one of the table's.
 fn is_named(t: &Words, i: usize, call: CallId, endpoint: u32, sender: u32) -> bool
-    requires { ⌜ i < total ⌝ }
+    requires { ⌜ i < slots ⌝ }
     ensures { λ r. ⌜ r ≡ isNamed (call .0) endpoint sender (idsOf (callAt (tableOf (now (t .entry))) i)) ⌝ }
 {
     let c = call_head(t, i);
@@ -62,7 +60,7 @@ fn is_named(t: &Words, i: usize, call: CallId, endpoint: u32, sender: u32) -> bo
 
 // A look with one slot more. Only a call of the connection's sender changes it. No slot adds more than four.
 fn looked(look: UnderLook, used: bool, t: &Words, i: usize, x: Connection) -> UnderLook
-    requires { ⌜ (i < total) × (look .four ≤ 4 * i) ⌝ }
+    requires { ⌜ (i < slots) × (look .four ≤ 4 * i) ⌝ }
     ensures { λ r. ⌜ (r ≡ underLookWith look i used (callAt (tableOf (now (t .entry))) i) (heldBy x)) × (r .four ≤ look .four + 4) ⌝ }
 {
     let f = call_four(t, i);
@@ -84,8 +82,7 @@ fn looked(look: UnderLook, used: bool, t: &Words, i: usize, x: Connection) -> Un
 pub fn look_under(t: &Words, x: Connection) -> UnderLook
     ensures { λ r. ⌜ r ≡ underLookOf (tableOf (now (t .entry))) (heldBy x) ⌝ }
 {
-    let word = occupied(t);
-    let n = used_below(word);
+    let n = used_below(t);
     let mut look = UnderLook {
         other: false,
         held: false,
@@ -95,7 +92,7 @@ pub fn look_under(t: &Words, x: Connection) -> UnderLook
     };
     let mut i: usize = 0;
     while i < n {
-        look = looked(look, is_used(word, i), t, i, x);
+        look = looked(look, is_used(t, i), t, i, x);
         i += 1;
     }
     look

@@ -21,6 +21,7 @@ use table_words::customers::CustomerHead;
 use table_words::customers::customer_head;
 use table_words::head::address;
 use table_words::head::epoch;
+use table_words::head::form;
 use table_words::head::listed;
 use table_words::head::next;
 
@@ -180,12 +181,13 @@ fn print_rules(holds: bool) {
     }
 }
 
-// What stands in a roster's table: own address and epoch, the next own identifier, the customers with
-// guarantee and limit, and whether the table keeps the rules.
+// What stands in a roster's table: own address and epoch, the next own identifier, the roster's form (0 where it was
+// refused), the customers with guarantee and limit, and whether the table keeps the rules.
 fn print_table(t: &Words) {
     print_address(b" own ", address(t));
     print_number(b" epoch ", epoch(t));
     print_number(b" next ", next(t));
+    print_number(b" form ", form(t));
     print_customers(t);
     print_rules(rules_hold(t));
 }

@@ -8,13 +8,15 @@ use native.Mathlib.Omega.{arith}
 use mathlib.Core.Path.{_≡_, refl, sym, ap, _∙_}
 use mathlib.Core.Logic.{⊎-elim}
 use mathlib.Core.List.{List}
-use mathlib.Core.Bool.{Bool, true, false, cond, _&&_, true≢false}
-use lib.Dec.{eqb, ltb}
+use mathlib.Core.Bool.{Bool, true, false, cond, not, _&&_, _||_, and-true, and-false, or-true, true≢false}
+use lib.Dec.{eqb, ltb, leb}
 use lib.ListN.{length, getD, set, length-set}
 use lib.Seq.{getD-set-same, getD-set-other}
-use borrow.Author.Tests.{eq-eqb, ne-eqb, eqb-true, eqb-false, ltb-true, ltb-false}
+use borrow.Author.Tests.{eqb-true, eqb-false, ltb-true, ltb-false, lt-ltb, le-leb, lt-leb}
+use Rattle.lists.specs.Below.{everyBelow}
 use Rattle.lists.specs.Chain.{lastBelow, inChain, InChains}
 use Rattle.lists.proofs.Tests.{both}
+use Rattle.lists.proofs.Below.{every-within}
 
 -- ---- the last place that passes
 
@@ -68,6 +70,42 @@ module _ (p : ℕ → Bool) where
       by : (b : Bool) → p n ≡ b → cond b (suc n) (lastBelow p n) ≤ j → (lastBelow p n ≤ j → j < n → ⊥) → ⊥
       by true q k i = omega arith
       by false q k i = ⊎-elim (λ (r : j ≡ n). true≢false (sym e ∙ ap p r ∙ q)) (λ (r : j < n). i k r) (eq-or-lt-of-le (le-of-suc-le-suc l))
+
+  -- it is the one that passes, where none behind it does
+  pub last-only : (n e : ℕ) → e < n → p e ≡ true → ((j : ℕ) → e < j → j < n → p j ≡ false) → lastBelow p n ≡ suc e
+  unfolding lastBelow
+  last-only zero e l h behind = absurd (not-suc-le-zero l)
+  last-only (suc n) e l h behind =
+      ⊎-elim
+      (λ (q : e ≡ n). rw (← q, h))
+      (λ (b : e < n). last-not p n (behind n b (omega arith)) ∙ last-only n e b h (λ j c d. behind j c (omega arith)))
+      (eq-or-lt-of-le (le-of-suc-le-suc l))
+
+  -- places that do not pass need not be gone over
+  pub last-rest : (n m : ℕ) → n ≤ m → ((j : ℕ) → n ≤ j → j < m → p j ≡ false) → lastBelow p m ≡ lastBelow p n
+  last-rest n zero h behind = let e : n ≡ 0 = omega arith in rw e
+  last-rest n (suc m) h behind =
+      ⊎-elim
+      (λ (e : n ≡ suc m). rw e)
+      (λ l. last-not p m (behind m (le-of-suc-le-suc l) (omega arith)) ∙ last-rest n m (le-of-suc-le-suc l) (λ j a b. behind j a (omega arith)))
+      (eq-or-lt-of-le h)
+
+  -- it is within a bound where every place that passes is
+  pub last-bound : (n m : ℕ) → leb (lastBelow p n) m ≡ everyBelow (λ i. not (p i) || ltb i m) n
+  unfolding lastBelow everyBelow
+  last-bound zero m = le-leb 0 m (omega arith)
+  last-bound (suc n) m = by (p n) (last-bound n m)
+    where
+      passing : (b : Bool) → ltb n m ≡ b → leb (suc n) m ≡ (everyBelow (λ i. not (p i) || ltb i m) n && b)
+      passing true e =
+          let l = ltb-true n m e in
+          rw (every-within (λ i. not (p i) || ltb i m) n (λ i h. rw (lt-ltb i m (omega arith)) (or-true (not (p i))))) (le-leb (suc n) m l)
+      passing false e = let l = ltb-false n m e in lt-leb (suc n) m (omega arith) ∙ sym (and-false (everyBelow (λ i. not (p i) || ltb i m) n))
+
+      by : (b : Bool) → leb (lastBelow p n) m ≡ everyBelow (λ i. not (p i) || ltb i m) n
+          → leb (cond b (suc n) (lastBelow p n)) m ≡ (everyBelow (λ i. not (p i) || ltb i m) n && (not b || ltb n m))
+      by true i = passing (ltb n m) refl
+      by false i = i ∙ sym (and-true (everyBelow (λ i. not (p i) || ltb i m) n))
 
   pub last-ext : (q : ℕ → Bool) (n : ℕ) → ((i : ℕ) → i < n → p i ≡ q i) → lastBelow p n ≡ lastBelow q n
   unfolding lastBelow

@@ -3,20 +3,20 @@
 // what the table then holds. A cut frame prints `cut` and ends it.
 ghost use mathlib.Core.Path.{_≡_};
 ghost use Prim.Native.Nat.{_≤_, _<_, min};
-ghost use Rattle.table.specs.Total.{total};
+ghost use Rattle.table.specs.Total.{slots};
 ghost use Rattle.table_words.specs.Fours.{FourInside};
 use checkpoint_read::read_checkpoint;
 use libc::STDIN_FILENO;
 use libc::STDOUT_FILENO;
 use lists::to_usize;
 use numbers::big_endian::get32;
+use occupancy::is_used;
 use rosters::read_roster;
 use table::answer::roster_number;
 use table::layout::CUSTOMERS;
 use table::layout::SLOTS;
 use table::layout::WORDS;
 use table::layout::Words;
-use table::word::is_used;
 use table_words::calls::CallWord;
 use table_words::calls::call_head;
 use table_words::fours::FourPlace;
@@ -25,7 +25,6 @@ use table_words::fours::call_four;
 use table_words::fours::customer_four;
 use table_words::fours::endpoint_at;
 use table_words::fours::place_words;
-use table_words::head::occupied;
 use table_words::names::name_byte;
 use table_words::names::name_size;
 
@@ -95,7 +94,7 @@ fn print_address(a: u32) {
 }
 
 fn print_name(t: &Words, i: usize, size: u32)
-    requires { ⌜ i < total ⌝ }
+    requires { ⌜ i < slots ⌝ }
 {
     let n = name_size(size);
     let mut k: usize = 0;
@@ -106,7 +105,7 @@ fn print_name(t: &Words, i: usize, size: u32)
 }
 
 fn print_call(t: &Words, i: usize)
-    requires { ⌜ i < total ⌝ }
+    requires { ⌜ i < slots ⌝ }
 {
     let c = call_head(t, i);
     print_text(b"call");
@@ -145,10 +144,9 @@ fn print_four(t: &Words, f: FourPlace)
 
 // Calls in slot order, connections in the order of a copy. Free slots and unused records hold no connections.
 fn print_table(t: &Words) {
-    let word = occupied(t);
     let mut i: usize = 0;
     while i < SLOTS {
-        if is_used(word, i) {
+        if is_used(t, i) {
             print_call(t, i);
         }
         i += 1;

@@ -1,6 +1,6 @@
 -- The laws of a turn over the records: what it stores, what it adds, and what is left to answer.
 -- Assumes nothing.
-use Prim.Native.Nat.{ℕ, suc, _+_, _-_, _*_, _/_, _%_, _≤_, _<_}
+use Prim.Native.Nat.{ℕ, suc, _+_, _-_, _*_, _≤_, _<_}
 use native.Mathlib.Omega.{arith}
 use mathlib.Core.Path.{_≡_, refl}
 use mathlib.Core.List.{List, [], _∷_}
@@ -8,7 +8,7 @@ use mathlib.Core.Bool.{Bool, true, cond}
 use lib.Dec.{ltb}
 use lib.ListN.{set, replicate}
 use borrow.Author.Tests.{eq-eqb, ne-eqb}
-use Rattle.numbers.specs.BigEndian.{be16At, be24At, be32At}
+use Rattle.numbers.specs.BigEndian.{be24At, be32At}
 use Rattle.lists.specs.Count.{has}
 use Rattle.lists.specs.Below.{elementIf, below}
 use Rattle.lists.proofs.Below.{sum-turn}
@@ -16,13 +16,13 @@ use Rattle.lists.proofs.Filled.{fill-turn, fill-left}
 use Rattle.table.specs.declared.answer.RosterAnswer.{RosterAnswer}
 use Rattle.table.specs.declared.answer.RosterAnswer.the-variants.{Accepted, SpareBits, Share, Repeated, Guarantees}
 use Rattle.table.specs.Table.{Table}
-use Rattle.table.specs.Total.{total}
+use Rattle.table.specs.Total.{slots}
 use Rattle.table.specs.Zeros.{noCall, noCustomer, emptyTable, pastCustomer}
 use Rattle.table.specs.Lists.{customerAt}
 use Rattle.table.specs.Share.{isAt}
 use Rattle.table.specs.Rules.{badShare, guarantees}
 use Rattle.table.specs.Stores.{withTerms, withRoster}
-use Rattle.table.specs.Roster.{customersIn, termsIn, recordsIn, recordsAnswer, customerIn, customersFrom, freshTable, rosterNumber, tableFor}
+use Rattle.table.specs.Roster.{formIn, customersIn, totalIn, spareIn, sharesIn, termsIn, recordsIn, recordsAnswer, customerIn, customersFrom, freshTable, rosterNumber, tableFor}
 use Rattle.rosters.specs.Taken.{withRecord}
 
 -- ---- the customers
@@ -34,9 +34,10 @@ taking s k = record {
   epoch = 0;
   next = 1;
   listed = 0;
-  occupied = 0;
+  form = 0;
+  occupied = replicate 4 0;
   customers = customersFrom s k;
-  calls = replicate total noCall;
+  calls = replicate slots noCall;
 }
 
 pub taking-none : (s : List ℕ) → emptyTable ≡ taking s 0
@@ -59,10 +60,10 @@ terms-in s k = refl
 pub taking-turn : (t : Table) (s : List ℕ) (k : ℕ) → k < 8 → t ≡ taking s k → withRecord t s k ≡ taking s (k + 1)
 taking-turn t s k h e = rw (e, next-unused s k h, terms-in s k, one-more-customer s k h)
 
-pub taking-all : (t : Table) (s : List ℕ) (address epoch n : ℕ) → t ≡ taking s n → address ≡ be32At s 1 → epoch ≡ be24At s 5 → n ≡ customersIn s
-    → withRoster t address epoch n ≡ freshTable s
+pub taking-all : (t : Table) (s : List ℕ) (address epoch form n : ℕ) → t ≡ taking s n → address ≡ be32At s 1 → epoch ≡ be24At s 5 → form ≡ formIn s → n ≡ customersIn s
+    → withRoster t address epoch n form ≡ freshTable s
 unfolding freshTable
-taking-all t s address epoch n e a p q = rw (e, a, p, q)
+taking-all t s address epoch form n e a p f q = rw (e, a, p, f, q)
 
 -- ---- the guarantees
 
@@ -70,10 +71,10 @@ pub no-guarantees : (s : List ℕ) → 0 ≡ guarantees (recordsIn s 0)
 unfolding below
 no-guarantees s = refl
 
-pub one-more-guarantee : (s : List ℕ) (k sum word : ℕ) → word ≡ be16At s (12 + 6 * k) → sum ≡ guarantees (recordsIn s k)
-    → sum + word / 512 ≡ guarantees (recordsIn s (k + 1))
+pub one-more-guarantee : (s : List ℕ) (k sum guarantee : ℕ) → guarantee ≡ termsIn s k .guarantee → sum ≡ guarantees (recordsIn s k)
+    → sum + guarantee ≡ guarantees (recordsIn s (k + 1))
 unfolding elementIf
-one-more-guarantee s k sum word e h = sum-turn (λ j. termsIn s j ∷ []) (λ c. c .guarantee) k sum (word / 512) true (termsIn s k) refl h (rw e)
+one-more-guarantee s k sum guarantee e h = sum-turn (λ j. termsIn s j ∷ []) (λ c. c .guarantee) k sum guarantee true (termsIn s k) refl h e
 
 -- ---- the answer from record k on, of n: by that record's three tests, and after the last record by the sum
 
@@ -81,20 +82,21 @@ module _ (s : List ℕ) (k n : ℕ) where
   one-fewer : k < n → n - k ≡ suc (n - (k + 1))
   one-fewer h = omega arith
 
-  pub spare-bits : (word : ℕ) → k < n → word ≡ be16At s (12 + 6 * k) → (word % 4 ≡ 0 → ⊥) → recordsAnswer s k (n - k) ≡ SpareBits
+  pub spare-bits : (spare : ℕ) → k < n → spare ≡ spareIn (formIn s) (sharesIn s k) → (spare ≡ 0 → ⊥) → recordsAnswer s k (n - k) ≡ SpareBits
   unfolding recordsAnswer
-  spare-bits word h e p = rw (one-fewer h, ← e, ne-eqb (word % 4) 0 p)
+  spare-bits spare h e p = rw (one-fewer h, ← e, ne-eqb spare 0 p)
 
   -- `badShare` does not look at the address
-  pub judged : (word address : ℕ) (bad twice : Bool) → k < n → word ≡ be16At s (12 + 6 * k) → address ≡ be32At s (8 + 6 * k) → word % 4 ≡ 0
-      → bad ≡ badShare 64 (record { address = 0; guarantee = word / 512; limit = word / 4 % 128 }) → twice ≡ has (isAt address) (recordsIn s k)
+  pub judged : (spare guarantee limit total address : ℕ) (bad twice : Bool) → k < n → spare ≡ spareIn (formIn s) (sharesIn s k) → spare ≡ 0
+      → guarantee ≡ termsIn s k .guarantee → limit ≡ termsIn s k .limit → total ≡ totalIn s → address ≡ be32At s (8 + 6 * k)
+      → bad ≡ badShare total (record { address = 0; guarantee = guarantee; limit = limit }) → twice ≡ has (isAt address) (recordsIn s k)
       → recordsAnswer s k (n - k) ≡ cond bad Share (cond twice Repeated (recordsAnswer s (k + 1) (n - (k + 1))))
   unfolding recordsAnswer badShare
-  judged word address bad twice h e f p q r = rw (q, r, f, one-fewer h, ← e, eq-eqb (word % 4) 0 p)
+  judged spare guarantee limit total address bad twice h e p g l o f q r = rw (q, r, f, g, l, o, one-fewer h, ← e, eq-eqb spare 0 p)
 
-  pub summed : (sum : ℕ) → n ≤ k → sum ≡ guarantees (recordsIn s k) → recordsAnswer s k (n - k) ≡ cond (ltb 64 sum) Guarantees Accepted
+  pub summed : (total sum : ℕ) → n ≤ k → total ≡ totalIn s → sum ≡ guarantees (recordsIn s k) → recordsAnswer s k (n - k) ≡ cond (ltb total sum) Guarantees Accepted
   unfolding recordsAnswer
-  summed sum h e = let z : n - k ≡ 0 = omega arith in rw (z, e)
+  summed total sum h o e = let z : n - k ≡ 0 = omega arith in rw (z, o, e)
 
 -- ---- the table that goes with an answer
 

@@ -9,7 +9,7 @@ use native.Mathlib.Omega.{arith}
 use mathlib.Core.Path.{_≡_, refl, sym, ap, ap₂, _∙_}
 use mathlib.Core.Logic.{⊎-elim}
 use mathlib.Core.List.{[], _++_}
-use mathlib.Core.Bool.{Bool, true, false, cond, not, _&&_, _||_, and-false, true≢false}
+use mathlib.Core.Bool.{Bool, true, false, not, _&&_, _||_, and-false, true≢false}
 use lib.Dec.{eqb, ltb, leb}
 use borrow.Author.Tests.{eq-eqb, eqb-true, ltb-true, ltb-false, not-true, not-false}
 use Rattle.lists.specs.Count.{bit, countIf, has, noTwo, without}
@@ -21,11 +21,12 @@ use Rattle.lists.proofs.Below.{has-element, count-element, list-if-not, below-e
 use Rattle.lists.proofs.Search.{place-found}
 use Rattle.lists.proofs.Pairs.{no-two-places}
 use Rattle.table.specs.Table.{Table}
-use Rattle.table.specs.Total.{total, totalOf}
+use Rattle.table.specs.Total.{slots, totalOf}
 use Rattle.table.specs.Word.{isUsed}
 use Rattle.table.specs.Lists.{customerAt, termsOf, listedAt, roster, callAt, idsOf, openAt, entries, Held, Four, callFour, customerFour, placeAt, isTaken, connectionAt, heldPlace, heldIn, heldAt, standaloneAt, held}
 use Rattle.table.specs.Share.{isAt, isListed}
 use Rattle.table.specs.Rules.{badShare, sameAddress, guarantees, acceptable, rosterHolds, unlisted, sameLsp, sameConnection, holds, sendersListed}
+use Rattle.table.proofs.Addresses.{roster-cases}
 use Rattle.table.proofs.Names.{alike}
 use Rattle.rule_connections.specs.Own.{ownAt, own}
 use Rattle.rule_connections.proofs.Parts.{part, part-once, parts-once}
@@ -76,23 +77,20 @@ module _ (t : Table) (accepted : rosterHolds t ≡ true) where
   abbrev addressAt : ℕ → ℕ
   addressAt k = customerAt t k .address
 
-  roster-apart : (k : ℕ) → ltb k (t .listed) ≡ true → noTwo sameAddress (roster t) ≡ true
-  unfolding rosterHolds acceptable
-  roster-apart k u = by (eqb (t .listed) 0) refl accepted
-    where
-      by : (b : Bool) → eqb (t .listed) 0 ≡ b
-          → cond b (eqb (t .address) 0 && eqb (t .epoch) 0) (leb (t .listed) 8 && ltb (t .epoch) 0x1000000 && acceptable (totalOf t) (roster t)) ≡ true
-          → noTwo sameAddress (roster t) ≡ true
-      by true e h = let z : ⊥ = omega (arith, eqb-true (t .listed) 0 e, ltb-true k (t .listed) u) in absurd z
-      by false e h =
-          let r = roster t in
-          let a = both (leb (t .listed) 8 && ltb (t .epoch) 0x1000000) (acceptable total r) h .1 in
-          let b = both (not (has (badShare total) r) && noTwo sameAddress r) (leb (guarantees r) total) a .0 in
-          both (not (has (badShare total) r)) (noTwo sameAddress r) b .1
+  roster-apart : noTwo sameAddress (roster t) ≡ true
+  unfolding acceptable
+  roster-apart =
+      let r = roster t in
+      ⊎-elim
+      (λ (e : r ≡ []). rw e)
+      (λ a.
+      let b = both (not (has (badShare (totalOf t)) r) && noTwo sameAddress r) (leb (guarantees r) (totalOf t)) a .0 in
+      both (not (has (badShare (totalOf t)) r)) (noTwo sameAddress r) b .1)
+      (roster-cases t accepted)
 
   earlier-apart : (i j : ℕ) → i < 8 → j < i → ltb i (t .listed) ≡ true → ltb j (t .listed) ≡ true → eqb (addressAt j) (addressAt i) ≡ false
   earlier-apart i j h l u v =
-      let pairs = sym (no-two-places sameAddress (λ k. ltb k (t .listed)) (λ k. termsOf (customerAt t k)) 8) ∙ roster-apart i u in
+      let pairs = sym (no-two-places sameAddress (λ k. ltb k (t .listed)) (λ k. termsOf (customerAt t k)) 8) ∙ roster-apart in
       not-true _ (rw (u, v) at (pairs-at _ 8 pairs i j h l))
 
   addresses-apart : (j k : ℕ) → j < 8 → k < 8 → (j ≡ k → ⊥) → ltb j (t .listed) ≡ true → ltb k (t .listed) ≡ true → eqb (addressAt j) (addressAt k) ≡ false
@@ -108,9 +106,9 @@ module _ (t : Table) (accepted : rosterHolds t ≡ true) where
   own-part : (k : ℕ) → k < 8 → ltb k (t .listed) ≡ true → part senderOf (addressAt k) (held t) ≡ own t k
   unfolding listIf
   own-part k h u =
-      without-append other (below (heldAt t) total) (below (standaloneAt t) 8)
+      without-append other (below (heldAt t) slots) (below (standaloneAt t) 8)
       ∙ ap₂ _++_
-      (without-below other (heldAt t) total ∙ below-ext _ (ownAt t (addressAt k)) total (λ i l. list-part (isUsed (t .occupied) i) (callFour (callAt t i)) (addressAt k)))
+      (without-below other (heldAt t) slots ∙ below-ext _ (ownAt t (addressAt k)) slots (λ i l. list-part (isUsed (t .occupied) i) (callFour (callAt t i)) (addressAt k)))
       (without-below other (standaloneAt t) 8 ∙ below-only (λ j. without other (standaloneAt t j)) k 8 h others ∙ mine)
     where
       other : Held → Bool
@@ -141,20 +139,20 @@ module _ (t : Table) (accepted : rosterHolds t ≡ true) where
   no-strangers u f h = count-not-list-if stranger u (heldIn f) (λ e. none-in f stranger (λ j. ap not (h e)))
 
   module _ (listed : holds sendersListed t ≡ true) where
-    caller-listed : (i : ℕ) → i < total → isUsed (t .occupied) i ≡ true → isListed (roster t) (callAt t i .sender) ≡ true
+    caller-listed : (i : ℕ) → i < slots → isUsed (t .occupied) i ≡ true → isListed (roster t) (callAt t i .sender) ≡ true
     caller-listed i h u =
         let not-in = unlisted (roster t) in
         let none = has-false not-in (entries t) (not-true _ listed) in
         let here : countIf not-in (openAt t i) ≡ bit (not (isListed (roster t) (callAt t i .sender))) =
         count-element not-in (isUsed (t .occupied) i) (record { slot = i; ids = idsOf (callAt t i) }) ∙ rw u in
-        not-false _ (no-bit _ (omega (arith, count-at (openAt t) not-in i total h)))
+        not-false _ (no-bit _ (omega (arith, count-at (openAt t) not-in i slots h)))
 
     all-listed : countIf stranger (held t) ≡ 0
     all-listed =
         omega (
           arith,
-          count-append stranger (below (heldAt t) total) (below (standaloneAt t) 8),
-          count-nowhere stranger (heldAt t) total (λ i l. no-strangers (isUsed (t .occupied) i) (callFour (callAt t i)) (caller-listed i l)),
+          count-append stranger (below (heldAt t) slots) (below (standaloneAt t) 8),
+          count-nowhere stranger (heldAt t) slots (λ i l. no-strangers (isUsed (t .occupied) i) (callFour (callAt t i)) (caller-listed i l)),
           count-nowhere stranger (standaloneAt t) 8 (λ k l. no-strangers (ltb k (t .listed)) (customerFour (customerAt t k)) (customer-listed k l)),
         )
 

@@ -9,7 +9,7 @@ use Rattle.lists.specs.Count.{countIf, noTwo}
 use Rattle.lists.specs.Below.{listIf, below}
 use Rattle.lists.proofs.Below.{list-if-not, below-rest}
 use Rattle.table.specs.Table.{Table}
-use Rattle.table.specs.Total.{total}
+use Rattle.table.specs.Total.{slots}
 use Rattle.table.specs.Word.{isUsed, FreeFrom}
 use Rattle.table.specs.Lists.{customerAt, callAt, Lsp, Held, Four, callFour, customerFour, heldIn}
 use Rattle.table.specs.Rules.{sameLsp, sameConnection}
@@ -31,10 +31,10 @@ module _ (t : Table) (address i : ℕ) (used : Bool) (sender : ℕ) (u : used �
 
 module _ (t : Table) where
   -- no slot behind the last used one has any
-  own-rest : (address n : ℕ) → n ≤ total → FreeFrom (t .occupied) n → below (ownAt t address) total ≡ below (ownAt t address) n
+  own-rest : (address n : ℕ) → n ≤ slots → FreeFrom (t .occupied) n → below (ownAt t address) slots ≡ below (ownAt t address) n
   own-rest address n h free =
-      below-rest (ownAt t address) n total h
-      (λ i l. list-if-not (isUsed (t .occupied) i && eqb (callAt t i .sender) address) (heldIn (callFour (callAt t i))) (rw (free i l)))
+      below-rest (ownAt t address) n slots h
+      (λ i l m. list-if-not (isUsed (t .occupied) i && eqb (callAt t i .sender) address) (heldIn (callFour (callAt t i))) (rw (free i l m)))
 
   count-lsps : (p : Lsp → Bool) (l : List Held) → countIf p (lspsOf l) ≡ countIf (λ x. p (x .lsp)) l
   count-lsps p [] = refl
@@ -45,7 +45,7 @@ module _ (t : Table) where
   lsps-once (x ∷ l) = rw (count-lsps (sameLsp (x .lsp)) l, lsps-once l)
 
   -- what the rows have after the slots, and after the customer's own four
-  pub own-once : (k n : ℕ) (g : Four) (r s : List Lsp) → Alike g (customerFour (customerAt t k)) → n ≤ total → FreeFrom (t .occupied) n
+  pub own-once : (k n : ℕ) (g : Four) (r s : List Lsp) → Alike g (customerFour (customerAt t k)) → n ≤ slots → FreeFrom (t .occupied) n
       → r ≡ lspsOf (below (ownAt t (g .sender)) n) → s ≡ r ++ lspsOf (heldIn g) → noTwo sameLsp s ≡ noTwo sameConnection (own t k)
   own-once k n g r s a h free p q =
       rw (
@@ -54,6 +54,6 @@ module _ (t : Table) where
         alike-held g (customerFour (customerAt t k)) a,
         a .sender,
         ← (own-rest (customerAt t k .address) n h free),
-        ← (map-append (λ (x : Held). x .lsp) (below (ownAt t (customerAt t k .address)) total) (heldIn (customerFour (customerAt t k)))),
+        ← (map-append (λ (x : Held). x .lsp) (below (ownAt t (customerAt t k .address)) slots) (heldIn (customerFour (customerAt t k)))),
       )
       (lsps-once (own t k))

@@ -5,7 +5,7 @@ use mathlib.Core.Bool.{_&&_}
 use lib.Dec.{eqb}
 use Rattle.lists.specs.Below.{listIf, below}
 use Rattle.table.specs.Table.{Table}
-use Rattle.table.specs.Total.{totalOf}
+use Rattle.table.specs.Total.{slots}
 use Rattle.table.specs.Word.{isUsed}
 use Rattle.table.specs.Lists.{customerAt, callAt, Held, callFour, customerFour, heldIn}
 
@@ -15,4 +15,4 @@ ownAt t address i = listIf (isUsed (t .occupied) i && eqb (callAt t i .sender) a
 
 -- those under the calls of customer k, then those of Call ID 0
 abbrev pub own : Table → ℕ → List Held
-own t k = below (ownAt t (customerAt t k .address)) (totalOf t) ++ heldIn (customerFour (customerAt t k))
+own t k = below (ownAt t (customerAt t k .address)) slots ++ heldIn (customerFour (customerAt t k))

@@ -14,24 +14,24 @@ use table_words::fours::FourPlace;
 use table_words::fours::endpoint_at;
 use table_words::fours::place_words;
 
-// Room for all connections of the table: four for each of 64 slots, and four for each of 8 customers.
-pub type Column = [u32; 288];
+// Room for all connections of the table: four for each of 200 slots, and four for each of 8 customers.
+pub type Column = [u32; 832];
 
 // A reference to an array says nothing of its length, and a copy does. The copy is never read, and the compiler leaves it
 // out.
 fn copied(x: Column)
-    ensures { λ _. ⌜ length x ≡ 288 ⌝ }
+    ensures { λ _. ⌜ length x ≡ 832 ⌝ }
 {}
 
 fn sized(column: &Column)
-    ensures { λ _. ⌜ length (now (column .entry)) ≡ 288 ⌝ }
+    ensures { λ _. ⌜ length (now (column .entry)) ≡ 832 ⌝ }
 {
     copied(*column)
 }
 
 // A number stored in a row.
 fn put(column: &mut Column, n: usize, x: u32)
-    requires { ⌜ n < 288 ⌝ }
+    requires { ⌜ n < 832 ⌝ }
     ensures { λ _. ⌜ (n < length (now (column .entry))) × (now (column .exit) ≡ set (now (column .entry)) n x) ⌝ }
 {
     sized(column);
@@ -49,7 +49,7 @@ fn put_place(
     f: FourPlace,
     j: usize,
 ) -> usize
-    requires { ⌜ (n < 288) × FourInside f × (j < 4) ⌝ }
+    requires { ⌜ (n < 832) × FourInside f × (j < 4) ⌝ }
     ensures { λ r. ⌜ (rows (f .sender) (now (endpoints .exit)) (now (tunnels .exit)) (now (extended .exit)) (now (lsps .exit)) r ≡ rows (f .sender) (now (endpoints .entry)) (now (tunnels .entry)) (now (extended .entry)) (now (lsps .entry)) n ++ lspsOf (heldPlace (fourAtWord (now (t .entry)) f) j)) × (r ≤ n + 1) ⌝ }
 {
     let p = place_words(t, f, j);
@@ -73,7 +73,7 @@ pub fn put_four(
     t: &Words,
     f: FourPlace,
 ) -> usize
-    requires { ⌜ (n + 4 ≤ 288) × FourInside f ⌝ }
+    requires { ⌜ (n + 4 ≤ 832) × FourInside f ⌝ }
     ensures { λ r. ⌜ (rows (f .sender) (now (endpoints .exit)) (now (tunnels .exit)) (now (extended .exit)) (now (lsps .exit)) r ≡ rows (f .sender) (now (endpoints .entry)) (now (tunnels .entry)) (now (extended .entry)) (now (lsps .entry)) n ++ lspsOf (heldIn (fourAtWord (now (t .entry)) f))) × (r ≤ n + 4) ⌝ }
 {
     let mut m = n;
@@ -93,7 +93,7 @@ fn is_repeated(
     lsps: &Column,
     i: usize,
 ) -> bool
-    requires { ⌜ i < 288 ⌝ }
+    requires { ⌜ i < 832 ⌝ }
     ensures { λ r. ⌜ ((sender : ℕ) → r ≡ has (λ x. sameLsp x (rowAt sender (now (endpoints .entry)) (now (tunnels .entry)) (now (extended .entry)) (now (lsps .entry)) i)) (rows sender (now (endpoints .entry)) (now (tunnels .entry)) (now (extended .entry)) (now (lsps .entry)) i)) ⌝ }
 {
     let e = endpoints[i];
@@ -118,7 +118,7 @@ pub fn rows_once(
     lsps: &Column,
     n: usize,
 ) -> bool
-    requires { ⌜ n ≤ 288 ⌝ }
+    requires { ⌜ n ≤ 832 ⌝ }
     ensures { λ r. ⌜ ((sender : ℕ) → r ≡ noTwo sameLsp (rows sender (now (endpoints .entry)) (now (tunnels .entry)) (now (extended .entry)) (now (lsps .entry)) n)) ⌝ }
 {
     let mut found = false;

@@ -6,7 +6,7 @@ ghost use mathlib.Core.Bool.{true, not, _||_};
 ghost use Prim.Native.Nat.{_+_, _≤_, _<_};
 ghost use lib.Dec.{ltb};
 ghost use Rattle.lists.specs.Count.{noTwo};
-ghost use Rattle.table.specs.Total.{total};
+ghost use Rattle.table.specs.Total.{slots};
 ghost use Rattle.table.specs.Rules.{sameConnection, rosterHolds, holds, sendersListed, connectionsOnce};
 ghost use Rattle.table.specs.Words.{tableOf};
 ghost use Rattle.rule_connections.specs.Own.{ownAt, own};
@@ -14,13 +14,12 @@ ghost use Rattle.rule_connections.specs.Rows.{rows, lspsOf};
 use crate::columns::Column;
 use crate::columns::put_four;
 use crate::columns::rows_once;
+use occupancy::is_used;
+use occupancy::used_below;
 use table::layout::Words;
-use table::word::is_used;
-use table::word::used_below;
 use table_words::fours::call_four;
 use table_words::fours::customer_four;
 use table_words::head::listed;
-use table_words::head::occupied;
 
 mod columns;
 
@@ -32,31 +31,30 @@ fn put_call(
     lsps: &mut Column,
     n: usize,
     t: &Words,
-    word: u64,
     i: usize,
     sender: u32,
 ) -> usize
-    requires { ⌜ (n + 4 ≤ 288) × (i < total) × (word ≡ tableOf (now t) .occupied) ⌝ }
+    requires { ⌜ (n + 4 ≤ 832) × (i < slots) ⌝ }
     ensures { λ r. ⌜ (rows sender (now (endpoints .exit)) (now (tunnels .exit)) (now (extended .exit)) (now (lsps .exit)) r ≡ rows sender (now (endpoints .entry)) (now (tunnels .entry)) (now (extended .entry)) (now (lsps .entry)) n ++ lspsOf (ownAt (tableOf (now (t .entry))) sender i)) × (r ≤ n + 4) ⌝ }
 {
     let f = call_four(t, i);
-    if is_used(word, i) & (f.sender == sender) {
+    if is_used(t, i) & (f.sender == sender) {
         return put_four(endpoints, tunnels, extended, lsps, n, t, f);
     }
     n
 }
 
 // No connection of customer k is held twice.
-fn customer_once(t: &Words, word: u64, k: usize) -> bool
-    requires { ⌜ (word ≡ tableOf (now t) .occupied) × (k < 8) ⌝ }
+fn customer_once(t: &Words, k: usize) -> bool
+    requires { ⌜ k < 8 ⌝ }
     ensures { λ r. ⌜ r ≡ noTwo sameConnection (own (tableOf (now (t .entry))) k) ⌝ }
 {
-    let mut endpoints: Column = [0; 288];
-    let mut tunnels: Column = [0; 288];
-    let mut extended: Column = [0; 288];
-    let mut lsps: Column = [0; 288];
+    let mut endpoints: Column = [0; 832];
+    let mut tunnels: Column = [0; 832];
+    let mut extended: Column = [0; 832];
+    let mut lsps: Column = [0; 832];
     let g = customer_four(t, k);
-    let used = used_below(word);
+    let used = used_below(t);
     let mut n: usize = 0;
     let mut i: usize = 0;
     while i < used {
@@ -67,7 +65,6 @@ fn customer_once(t: &Words, word: u64, k: usize) -> bool
             &mut lsps,
             n,
             t,
-            word,
             i,
             g.sender,
         );
@@ -86,12 +83,12 @@ fn customer_once(t: &Words, word: u64, k: usize) -> bool
 }
 
 // The same of a roster record: an unused one has no connections.
-fn record_once(t: &Words, word: u64, listed: usize, k: usize) -> bool
-    requires { ⌜ (word ≡ tableOf (now t) .occupied) × (k < 8) ⌝ }
+fn record_once(t: &Words, listed: usize, k: usize) -> bool
+    requires { ⌜ k < 8 ⌝ }
     ensures { λ r. ⌜ r ≡ (not (ltb k listed) || noTwo sameConnection (own (tableOf (now (t .entry))) k)) ⌝ }
 {
     if k < listed {
-        return customer_once(t, word, k);
+        return customer_once(t, k);
     }
     true
 }
@@ -101,12 +98,11 @@ pub fn connections_once(t: &Words) -> bool
     requires { ⌜ (rosterHolds (tableOf (now t)) ≡ true) × (holds sendersListed (tableOf (now t)) ≡ true) ⌝ }
     ensures { λ r. ⌜ r ≡ holds connectionsOnce (tableOf (now (t .entry))) ⌝ }
 {
-    let word = occupied(t);
     let listed = listed(t);
     let mut once = true;
     let mut k: usize = 0;
     while k < 8 {
-        once = once & record_once(t, word, listed, k);
+        once = once & record_once(t, listed, k);
         k += 1;
     }
     once

@@ -1,13 +1,13 @@
 -- Keys in chains: whoever is equal is met on the way back through the chain.
 -- Assumes nothing.
 use Prim.Native.Nat.{ℕ, zero, suc, _+_, _-_, _≤_, _<_}
-use native.Mathlib.Nat.{not-suc-le-zero, eq-or-lt-of-le, le-of-suc-le-suc}
+use native.Mathlib.Nat.{eq-or-lt-of-le, le-of-suc-le-suc}
 use native.Mathlib.Numerals.{add-one}
 use native.Mathlib.Omega.{arith}
 use mathlib.Core.Path.{_≡_, refl, sym, ap, _∙_}
 use mathlib.Core.Logic.{⊎-elim}
 use mathlib.Core.List.{List, [], _∷_, _++_}
-use mathlib.Core.Bool.{Bool, true, false, cond, not, _&&_}
+use mathlib.Core.Bool.{Bool, true, false, not, _&&_}
 use lib.Dec.{eqb, ltb}
 use lib.ListN.{getD, take, set, length-set}
 use lib.Seq.{getD-set-same, getD-set-other, take-suc-set}
@@ -98,7 +98,7 @@ last-set : (keys : List ℕ) (n key m k : ℕ) → k ≤ n → lastIn (set keys 
 last-set keys n key m k l =
     last-ext (isOf (set keys n key) m) (isOf keys m) k (λ i b. ap (λ (x : ℕ). eqb (chainOf x) m) (getD-set-other keys n i key 0 (λ (e : i ≡ n). omega arith)))
 
-module _ {heads links keys : List ℕ} {n : ℕ} (key : ℕ) (c : Chained heads links keys n) (fits : key < 4294967296) (room : n < 416) where
+module _ {heads links keys : List ℕ} {n : ℕ} (key : ℕ) (c : Chained heads links keys n) (fits : key < 4294967296) (room : n < 1232) where
   -- the last key of the chain that the new one is of
   abbrev first : ℕ
   first = getD heads (chainOf key) 0

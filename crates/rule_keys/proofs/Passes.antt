@@ -11,7 +11,7 @@ use Rattle.lists.specs.Below.{listIf, below}
 use Rattle.lists.specs.Chain.{lastBelow}
 use Rattle.lists.proofs.Below.{below-more, below-rest, list-if-not}
 use Rattle.table.specs.Table.{Table}
-use Rattle.table.specs.Total.{total}
+use Rattle.table.specs.Total.{slots}
 use Rattle.table.specs.Word.{isUsed, FreeFrom}
 use Rattle.table.specs.Lists.{customerAt, callAt, Four, customerFour, heldIn}
 use Rattle.table_words.specs.Fours.{Alike}
@@ -19,11 +19,11 @@ use Rattle.table_words.proofs.Alike.{alike-held}
 use Rattle.rule_keys.specs.Chains.{Listed}
 use Rattle.rule_keys.specs.Keys.{heldKeys, callKeys, callKeysAt}
 
-pub nothing-noted : (steps : ℕ) → Listed (replicate 2048 0) (replicate 416 0) (replicate 416 0) (record { count = 0; left = steps })
+pub nothing-noted : (steps : ℕ) → Listed (replicate 2048 0) (replicate 1232 0) (replicate 1232 0) (record { count = 0; left = steps })
 unfolding lastBelow
 nothing-noted steps = record {
   chained = record {
-    sized = (length-replicate {A = ℕ} 2048 0, length-replicate {A = ℕ} 416 0, length-replicate {A = ℕ} 416 0);
+    sized = (length-replicate {A = ℕ} 2048 0, length-replicate {A = ℕ} 1232 0, length-replicate {A = ℕ} 1232 0);
     head = λ m l. getD-replicate {A = ℕ} 2048 m 0 0 l;
     linked = λ i l. absurd (not-suc-le-zero l);
   };
@@ -35,12 +35,9 @@ pub pass-turn : (f : ℕ → List ℕ) (i : ℕ) (s m n : List ℕ) → m ≡ s 
 pass-turn f i s m n p q = rw (q, p, below-more f i) (append-assoc s (below f i) (f i))
 
 -- the slots from `n` on are free
-pub slots-passed : (t : Table) (word n : ℕ) (m : List ℕ) → word ≡ t .occupied → n ≤ total → FreeFrom word n
-    → m ≡ below (λ i. listIf (isUsed word i) (callKeys (callAt t i))) n → m ≡ below (callKeysAt t) total
-slots-passed t word n m e h free p =
-    p
-    ∙ sym (below-rest (λ i. listIf (isUsed word i) (callKeys (callAt t i))) n total h (λ i l. list-if-not (isUsed word i) (callKeys (callAt t i)) (free i l)))
-    ∙ rw e
+pub slots-passed : (t : Table) (n : ℕ) (m : List ℕ) → n ≤ slots → FreeFrom (t .occupied) n → m ≡ below (callKeysAt t) n → m ≡ below (callKeysAt t) slots
+slots-passed t n m h free p =
+    p ∙ sym (below-rest (callKeysAt t) n slots h (λ i l b. list-if-not (isUsed (t .occupied) i) (callKeys (callAt t i)) (free i l b)))
 
 -- a customer's keys, those of the four `f`, where it is listed
 module _ (t : Table) (listed k : ℕ) where

@@ -15,7 +15,7 @@ use Rattle.lists.proofs.Count.{has-less, count-append}
 use Rattle.lists.proofs.Below.{count-none, count-below, every-at}
 use Rattle.lists.proofs.Once.{no-two-once, once-no-two}
 use Rattle.table.specs.Table.{Table}
-use Rattle.table.specs.Total.{total}
+use Rattle.table.specs.Total.{slots}
 use Rattle.table.specs.Word.{isUsed}
 use Rattle.table.specs.Lists.{Ids, idsOf, customerAt, callAt, openAt, entries, Held, callFour, customerFour, heldIn, heldAt, standaloneAt, held}
 use Rattle.table.specs.Rules.{sameBytes, samePair, sameShort, sameLong, sameLsp, sameConnection, slotFreeClear, recordFreeClear, holds, shortIdsOnce, longIdsOnce, connectionsOnce, freeHoldsZeros}
@@ -109,18 +109,18 @@ module _ (k : ℕ) where
 -- ---- the table's
 
 module _ (t : Table) (k : ℕ) where
-  calls-among : {A : Type 0} (f : ℕ → List A) (p : A → Bool) → ((i : ℕ) → i < total → countIf p (f i) ≤ countIf (eqb k) (callKeysAt t i))
-      → countIf p (below f total) ≤ countIf (eqb k) (keysOf t)
+  calls-among : {A : Type 0} (f : ℕ → List A) (p : A → Bool) → ((i : ℕ) → i < slots → countIf p (f i) ≤ countIf (eqb k) (callKeysAt t i))
+      → countIf p (below f slots) ≤ countIf (eqb k) (keysOf t)
   calls-among f p h =
-      omega (arith, below-among f (callKeysAt t) p (eqb k) total h, count-append (eqb k) (below (callKeysAt t) total) (below (standaloneKeysAt t) 8))
+      omega (arith, below-among f (callKeysAt t) p (eqb k) slots h, count-append (eqb k) (below (callKeysAt t) slots) (below (standaloneKeysAt t) 8))
 
   held-among : countIf (λ x. eqb k (lspKey (x .lsp))) (held t) ≤ countIf (eqb k) (keysOf t)
   held-among =
       omega (
         arith,
-        count-append p (below (heldAt t) total) (below (standaloneAt t) 8),
-        count-append (eqb k) (below (callKeysAt t) total) (below (standaloneKeysAt t) 8),
-        below-among (heldAt t) (callKeysAt t) p (eqb k) total
+        count-append p (below (heldAt t) slots) (below (standaloneAt t) 8),
+        count-append (eqb k) (below (callKeysAt t) slots) (below (standaloneKeysAt t) 8),
+        below-among (heldAt t) (callKeysAt t) p (eqb k) slots
             (λ i l. some-among k p (isUsed (t .occupied) i) (under i) (callKeys (callAt t i)) (omega (arith, count-mapped (eqb k) (λ (x : Held). lspKey (x .lsp)) (under i)))),
         below-among (standaloneAt t) (standaloneKeysAt t) p (eqb k) 8
             (λ m l. some-among k p (ltb m (t .listed)) (alone m) (heldKeys (alone m)) (omega (arith, count-mapped (eqb k) (λ (x : Held). lspKey (x .lsp)) (alone m)))),
@@ -136,13 +136,13 @@ module _ (t : Table) (k : ℕ) where
       alone m = heldIn (customerFour (customerAt t m))
 
 -- a used slot holds zeros behind its name, so that its long ID is all of it
-long-key : (w : List ℕ) (i : ℕ) → holds freeHoldsZeros (tableOf w) ≡ true → i < total → isUsed (tableOf w .occupied) i ≡ true
+long-key : (w : List ℕ) (i : ℕ) → holds freeHoldsZeros (tableOf w) ≡ true → i < slots → isUsed (tableOf w .occupied) i ≡ true
     → longKey (callAt (tableOf w) i .endpoint) (callAt (tableOf w) i .sender) (callAt (tableOf w) i .name) ≡ longOf (idsOf (callAt (tableOf w) i))
 long-key w i zeros l u =
     let t = tableOf w in
     let c = callAt t i in
-    let slots = both (everyBelow (slotFreeClear t) total) (everyBelow (recordFreeClear t) 8) zeros .0 in
-    let clear = rw u at (every-at (slotFreeClear t) total slots i l) in
+    let free = both (everyBelow (slotFreeClear t) slots) (everyBelow (recordFreeClear t) 8) zeros .0 in
+    let clear = rw u at (every-at (slotFreeClear t) slots free i l) in
     ap (λ (n : List ℕ). longKey (c .endpoint) (c .sender) n) (name-padded (c .name) (c .size) (name-room w i l) (free-zeros c clear))
 
 pub keys-say : (w : List ℕ) → holds freeHoldsZeros (tableOf w) ≡ true → noTwo eqb (keysOf (tableOf w)) ≡ true

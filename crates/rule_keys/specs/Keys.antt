@@ -6,7 +6,7 @@ use mathlib.Core.List.{List, _∷_, _++_, map}
 use lib.Dec.{ltb}
 use Rattle.lists.specs.Below.{listIf, below}
 use Rattle.table.specs.Table.{Call, Table}
-use Rattle.table.specs.Total.{totalOf}
+use Rattle.table.specs.Total.{slots}
 use Rattle.table.specs.Word.{isUsed}
 use Rattle.table.specs.Lists.{customerAt, callAt, Lsp, Held, callFour, customerFour, heldIn}
 use Rattle.table_words.specs.Names.{wordIn}
@@ -67,4 +67,4 @@ standaloneKeysAt t k = listIf (ltb k (t .listed)) (heldKeys (heldIn (customerFou
 
 -- of the whole table, in the order in which they are noted
 abbrev pub keysOf : Table → List ℕ
-keysOf t = below (callKeysAt t) (totalOf t) ++ below (standaloneKeysAt t) 8
+keysOf t = below (callKeysAt t) slots ++ below (standaloneKeysAt t) 8

@@ -1,7 +1,7 @@
 // The keys of a call's IDs and of connections: the last 32 bits of sums that cannot overflow.
 ghost use mathlib.Core.Path.{_≡_};
 ghost use Prim.Native.Nat.{_<_};
-ghost use Rattle.table.specs.Total.{total};
+ghost use Rattle.table.specs.Total.{slots};
 ghost use Rattle.table.specs.Lists.{callAt};
 ghost use Rattle.table.specs.Words.{tableOf};
 ghost use Rattle.rule_keys.specs.Keys.{pairSum, wordProduct, nameSum, shortKey, longKey, lspKey};
@@ -24,14 +24,14 @@ pub fn short_key(c: CallHead) -> u32
 
 // Here and below, whoever asks says why the slot is one of the table's.
 fn word_product(t: &Words, i: usize, k: usize, factor: u64) -> u64
-    requires { ⌜ (i < total) × (k < 8) × (factor < 268435456) ⌝ }
+    requires { ⌜ (i < slots) × (k < 8) × (factor < 268435456) ⌝ }
     ensures { λ r. ⌜ (r ≡ wordProduct (callAt (tableOf (now (t .entry))) i .name) k factor) × (r < 1152921504606846976) ⌝ }
 {
     (name_word(t, i, k) as u64) * factor
 }
 
 fn name_sum(t: &Words, i: usize) -> u64
-    requires { ⌜ i < total ⌝ }
+    requires { ⌜ i < slots ⌝ }
     ensures { λ r. ⌜ (r ≡ nameSum (callAt (tableOf (now (t .entry))) i .name)) × (r < 9223372036854775808) ⌝ }
 {
     word_product(t, i, 0, 205589543)
@@ -46,7 +46,7 @@ fn name_sum(t: &Words, i: usize) -> u64
 
 // Of the pair of a slot's call, and the slot's name.
 pub fn long_key(c: CallHead, t: &Words, i: usize) -> u32
-    requires { ⌜ i < total ⌝ }
+    requires { ⌜ i < slots ⌝ }
     ensures { λ r. ⌜ r ≡ longKey (c .endpoint) (c .sender) (callAt (tableOf (now (t .entry))) i .name) ⌝ }
 {
     ((pair_sum(c.endpoint, c.sender) + name_sum(t, i)) % 4294967296) as u32

@@ -9,7 +9,7 @@ ghost use lib.Dec.{eqb};
 ghost use lib.ListN.{take};
 ghost use Rattle.lists.specs.Count.{noTwo};
 ghost use Rattle.lists.specs.Below.{listIf};
-ghost use Rattle.table.specs.Total.{total};
+ghost use Rattle.table.specs.Total.{slots};
 ghost use Rattle.table.specs.Word.{isUsed};
 ghost use Rattle.table.specs.Lists.{callAt, heldPlace, heldIn};
 ghost use Rattle.table.specs.Words.{tableOf};
@@ -24,9 +24,9 @@ use crate::chains::note_key;
 use crate::keys::long_key;
 use crate::keys::lsp_key;
 use crate::keys::short_key;
+use occupancy::is_used;
+use occupancy::used_below;
 use table::layout::Words;
-use table::word::is_used;
-use table::word::used_below;
 use table_words::calls::call_head;
 use table_words::fours::FourPlace;
 use table_words::fours::call_four;
@@ -34,13 +34,12 @@ use table_words::fours::customer_four;
 use table_words::fours::endpoint_at;
 use table_words::fours::place_words;
 use table_words::head::listed;
-use table_words::head::occupied;
 
 mod chains;
 mod keys;
 
-// How many steps back through chains are taken at most. The tables that the keys' factors were tried on take up to 29.
-const STEPS: usize = 512;
+// How many steps back through chains are taken at most.
+const STEPS: usize = 2048;
 
 // Notes the key of a place's connection; a free place has none.
 fn note_place(
@@ -52,7 +51,7 @@ fn note_place(
     f: FourPlace,
     j: usize,
 ) -> Noted
-    requires { ⌜ Listed (now heads) (now links) (now keys) at × (at .count < 416) × FourInside f × (j < 4) ⌝ }
+    requires { ⌜ Listed (now heads) (now links) (now keys) at × (at .count < 1232) × FourInside f × (j < 4) ⌝ }
     ensures { λ r. ⌜ Listed (now (heads .exit)) (now (links .exit)) (now (keys .exit)) r × (take (r .count) (now (keys .exit)) ≡ take (at .count) (now (keys .entry)) ++ heldKeys (heldPlace (fourAtWord (now (t .entry)) f) j)) × (r .count ≤ at .count + 1) ⌝ }
 {
     let p = place_words(t, f, j);
@@ -71,7 +70,7 @@ fn note_four(
     t: &Words,
     f: FourPlace,
 ) -> Noted
-    requires { ⌜ Listed (now heads) (now links) (now keys) at × (at .count + 4 ≤ 416) × FourInside f ⌝ }
+    requires { ⌜ Listed (now heads) (now links) (now keys) at × (at .count + 4 ≤ 1232) × FourInside f ⌝ }
     ensures { λ r. ⌜ Listed (now (heads .exit)) (now (links .exit)) (now (keys .exit)) r × (take (r .count) (now (keys .exit)) ≡ take (at .count) (now (keys .entry)) ++ heldKeys (heldIn (fourAtWord (now (t .entry)) f))) × (r .count ≤ at .count + 4) ⌝ }
 {
     let mut noted = at;
@@ -92,7 +91,7 @@ fn note_call(
     t: &Words,
     i: usize,
 ) -> Noted
-    requires { ⌜ Listed (now heads) (now links) (now keys) at × (at .count + 6 ≤ 416) × (i < total) ⌝ }
+    requires { ⌜ Listed (now heads) (now links) (now keys) at × (at .count + 6 ≤ 1232) × (i < slots) ⌝ }
     ensures { λ r. ⌜ Listed (now (heads .exit)) (now (links .exit)) (now (keys .exit)) r × (take (r .count) (now (keys .exit)) ≡ take (at .count) (now (keys .entry)) ++ callKeys (callAt (tableOf (now (t .entry))) i)) × (r .count ≤ at .count + 6) ⌝ }
 {
     let c = call_head(t, i);
@@ -108,13 +107,12 @@ fn note_slot(
     keys: &mut Keys,
     at: Noted,
     t: &Words,
-    word: u64,
     i: usize,
 ) -> Noted
-    requires { ⌜ Listed (now heads) (now links) (now keys) at × (at .count + 6 ≤ 416) × (i < total) ⌝ }
-    ensures { λ r. ⌜ Listed (now (heads .exit)) (now (links .exit)) (now (keys .exit)) r × (take (r .count) (now (keys .exit)) ≡ take (at .count) (now (keys .entry)) ++ listIf (isUsed word i) (callKeys (callAt (tableOf (now (t .entry))) i))) × (r .count ≤ at .count + 6) ⌝ }
+    requires { ⌜ Listed (now heads) (now links) (now keys) at × (at .count + 6 ≤ 1232) × (i < slots) ⌝ }
+    ensures { λ r. ⌜ Listed (now (heads .exit)) (now (links .exit)) (now (keys .exit)) r × (take (r .count) (now (keys .exit)) ≡ take (at .count) (now (keys .entry)) ++ listIf (isUsed (tableOf (now (t .entry)) .occupied) i) (callKeys (callAt (tableOf (now (t .entry))) i))) × (r .count ≤ at .count + 6) ⌝ }
 {
-    if is_used(word, i) {
+    if is_used(t, i) {
         return note_call(heads, links, keys, at, t, i);
     }
     at
@@ -124,18 +122,17 @@ fn note_slot(
 pub fn keys_apart(t: &Words) -> bool
     ensures { λ r. ⌜ (r ≡ true → noTwo eqb (keysOf (tableOf (now (t .entry)))) ≡ true) ⌝ }
 {
-    let word = occupied(t);
     let mut heads: Heads = [0; 2048];
-    let mut links: Links = [0; 416];
-    let mut keys: Keys = [0; 416];
+    let mut links: Links = [0; 1232];
+    let mut keys: Keys = [0; 1232];
     let mut noted = Noted {
         count: 0,
         left: STEPS,
     };
-    let n = used_below(word);
+    let n = used_below(t);
     let mut i: usize = 0;
     while i < n {
-        noted = note_slot(&mut heads, &mut links, &mut keys, noted, t, word, i);
+        noted = note_slot(&mut heads, &mut links, &mut keys, noted, t, i);
         i += 1;
     }
     let listed = listed(t);

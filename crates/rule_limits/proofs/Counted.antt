@@ -13,7 +13,7 @@ use Rattle.lists.proofs.Tests.{eqb-swap}
 use Rattle.lists.proofs.Count.{one-bit}
 use Rattle.lists.proofs.Below.{count-element, element-not, below-more, below-ext, count-none, count-below, count-turn, length-each, getD-each}
 use Rattle.table.specs.Table.{Table}
-use Rattle.table.specs.Total.{total}
+use Rattle.table.specs.Total.{slots}
 use Rattle.table.specs.Word.{isUsed}
 use Rattle.table.specs.Lists.{customerAt, Entry, callAt, idsOf, openAt, entries}
 use Rattle.table.specs.Share.{from, callsOf}
@@ -65,7 +65,7 @@ each-free t i u = rw (below-more (openAt t) i, element-not (isUsed (t .occupied)
 
 -- what one record's count is, and that it fits the table
 pub each-calls : (t : Table) (counts : List ℕ) (k : ℕ) → counts ≡ callsEach t (entries t) → k < 8
-    → (getD counts k 0 ≡ callsOf (entries t) (customerAt t k .address)) × (getD counts k 0 ≤ total)
+    → (getD counts k 0 ≡ callsOf (entries t) (customerAt t k .address)) × (getD counts k 0 ≤ slots)
 each-calls t counts k e h =
     let a = rw (← e) at (each-at t (entries t) k h) in
-    (a, omega (arith, a, calls-most t (customerAt t k .address) total))
+    (a, omega (arith, a, calls-most t (customerAt t k .address) slots))

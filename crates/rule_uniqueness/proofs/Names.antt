@@ -1,9 +1,9 @@
 -- Names as the table holds them, in 32 bytes with zeros behind them: every slot's is so by the rules on names and zeros,
 -- and two such are the same where their lengths and all of their bytes are.
 -- Assumes nothing.
-use Prim.Native.Nat.{ℕ, _-_, _≤_, _<_}
+use Prim.Native.Nat.{ℕ, _-_, _≤_}
 use native.Mathlib.Omega.{arith}
-use mathlib.Core.Path.{_≡_, refl, sym, ap, _∙_}
+use mathlib.Core.Path.{_≡_, sym, ap, _∙_}
 use mathlib.Core.List.{List}
 use mathlib.Core.Bool.{Bool, true, false, cond, not, _&&_, _||_}
 use lib.Dec.{ltb, leb, eqb}
@@ -14,10 +14,10 @@ use Rattle.numbers.specs.Search.{zerosAt}
 use Rattle.lists.proofs.Tests.{both}
 use Rattle.lists.proofs.Below.{every-at}
 use Rattle.table.specs.Table.{Call, Table}
-use Rattle.table.specs.Total.{total}
+use Rattle.table.specs.Total.{slots}
 use Rattle.table.specs.Word.{isUsed}
 use Rattle.table.specs.Lists.{callAt, callFour}
-use Rattle.table.specs.Rules.{sameBytes, validIds, unusedClear, fourClear, callFreeClear, callClear, slotFreeClear, recordFreeClear, holds, namesAndIds, freeHoldsZeros}
+use Rattle.table.specs.Rules.{sameBytes, validIds, unusedClear, fourClear, callFreeClear, callClear, slotFreeClear, holds, namesAndIds, freeHoldsZeros}
 use Rattle.table.proofs.SameBytes.{same-bytes}
 use Rattle.table.proofs.Names.{alike, same-self}
 use Rattle.table_words.proofs.Padded.{padded, free-zeros, name-padded}
@@ -62,7 +62,7 @@ clear-ends c h =
 
 pub names-end : (t : Table) → holds namesAndIds t ≡ true → holds freeHoldsZeros t ≡ true → NamesEnd t
 names-end t names zeros i l =
-    by (isUsed (t .occupied) i) (every-at _ total names i l) (every-at (slotFreeClear t) total (both _ _ zeros .0) i l)
+    by (isUsed (t .occupied) i) (every-at _ slots names i l) (every-at (slotFreeClear t) slots (both _ _ zeros .0) i l)
   where
     by : (u : Bool) → (not u || validIds (callAt t i)) ≡ true → cond u (callFreeClear (callAt t i)) (callClear (callAt t i)) ≡ true
         → (callAt t i .size ≤ 32) × (zerosAt (callAt t i .name) (callAt t i .size) (32 - callAt t i .size) ≡ true)

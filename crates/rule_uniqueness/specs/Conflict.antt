@@ -4,7 +4,7 @@ use mathlib.Core.Path.{_≡_}
 use mathlib.Core.Bool.{Bool, true, not, _&&_, _||_}
 use Rattle.numbers.specs.Search.{zerosAt}
 use Rattle.table.specs.Table.{Call, Table}
-use Rattle.table.specs.Total.{total}
+use Rattle.table.specs.Total.{slots}
 use Rattle.table.specs.Word.{isUsed}
 use Rattle.table.specs.Lists.{idsOf, callAt}
 use Rattle.table.specs.Rules.{sameShort, sameLong}
@@ -14,9 +14,9 @@ abbrev pub conflict : Call → Call → Bool
 conflict c d = sameShort (idsOf c) (idsOf d) || sameLong (idsOf c) (idsOf d)
 
 -- slots `i` and `j` do not hold calls in conflict
-abbrev pub apartAt : ℕ → Table → ℕ → ℕ → Bool
-apartAt word t i j = not (isUsed word j && (isUsed word i && conflict (callAt t j) (callAt t i)))
+abbrev pub apartAt : Table → ℕ → ℕ → Bool
+apartAt t i j = not (isUsed (t .occupied) j && (isUsed (t .occupied) i && conflict (callAt t j) (callAt t i)))
 
 -- each slot's name has at most 32 bytes, and zeros stand behind it
 abbrev pub NamesEnd : Table → Type 0
-NamesEnd t = (i : ℕ) → i < total → (callAt t i .size ≤ 32) × (zerosAt (callAt t i .name) (callAt t i .size) (32 - callAt t i .size) ≡ true)
+NamesEnd t = (i : ℕ) → i < slots → (callAt t i .size ≤ 32) × (zerosAt (callAt t i .name) (callAt t i .size) (32 - callAt t i .size) ≡ true)

@@ -4,24 +4,22 @@ ghost use mathlib.Core.Path.{_≡_};
 ghost use mathlib.Core.Bool.{true, _&&_};
 ghost use Prim.Native.Nat.{_<_};
 ghost use Rattle.lists.specs.Below.{everyBelow};
-ghost use Rattle.table.specs.Total.{total};
-ghost use Rattle.table.specs.Word.{isUsed};
+ghost use Rattle.table.specs.Total.{slots};
 ghost use Rattle.table.specs.Lists.{callAt};
 ghost use Rattle.table.specs.Rules.{holds, shortIdsOnce, longIdsOnce, namesAndIds, freeHoldsZeros};
 ghost use Rattle.table.specs.Words.{tableOf};
 ghost use Rattle.rule_uniqueness.specs.Conflict.{conflict, apartAt, NamesEnd};
+use occupancy::is_used;
+use occupancy::used_below;
 use table::layout::Words;
-use table::word::is_used;
-use table::word::used_below;
 use table_words::calls::call_head;
 use table_words::calls::same_names;
-use table_words::head::occupied;
 use table_words::ids::same_call;
 
 // Two slots' calls are of one pair and have the same short ID or the same long ID. Zeros stand behind the names: so they
 // are the same where their lengths and all of their words are. No branches: all pairs of slots take as long.
 fn in_conflict(t: &Words, j: usize, i: usize) -> bool
-    requires { ⌜ (j < total) × (i < total) × NamesEnd (tableOf (now t)) ⌝ }
+    requires { ⌜ (j < slots) × (i < slots) × NamesEnd (tableOf (now t)) ⌝ }
     ensures { λ r. ⌜ r ≡ conflict (callAt (tableOf (now (t .entry))) j) (callAt (tableOf (now (t .entry))) i) ⌝ }
 {
     let c = call_head(t, j);
@@ -32,15 +30,15 @@ fn in_conflict(t: &Words, j: usize, i: usize) -> bool
 }
 
 // A slot's call is in conflict with none of the earlier ones.
-fn apart_from_earlier(t: &Words, word: u64, i: usize) -> bool
-    requires { ⌜ (i < total) × NamesEnd (tableOf (now t)) ⌝ }
-    ensures { λ r. ⌜ r ≡ everyBelow (apartAt word (tableOf (now (t .entry))) i) i ⌝ }
+fn apart_from_earlier(t: &Words, i: usize) -> bool
+    requires { ⌜ (i < slots) × NamesEnd (tableOf (now t)) ⌝ }
+    ensures { λ r. ⌜ r ≡ everyBelow (apartAt (tableOf (now (t .entry))) i) i ⌝ }
 {
-    let used = is_used(word, i);
+    let used = is_used(t, i);
     let mut apart = true;
     let mut j: usize = 0;
     while j < i {
-        apart = apart & !(is_used(word, j) & (used & in_conflict(t, j, i)));
+        apart = apart & !(is_used(t, j) & (used & in_conflict(t, j, i)));
         j += 1;
     }
     apart
@@ -51,12 +49,11 @@ pub fn ids_once(t: &Words) -> bool
     requires { ⌜ (holds namesAndIds (tableOf (now t)) ≡ true) × (holds freeHoldsZeros (tableOf (now t)) ≡ true) ⌝ }
     ensures { λ r. ⌜ r ≡ (holds shortIdsOnce (tableOf (now (t .entry))) && holds longIdsOnce (tableOf (now (t .entry)))) ⌝ }
 {
-    let word = occupied(t);
-    let n = used_below(word);
+    let n = used_below(t);
     let mut apart = true;
     let mut i: usize = 0;
     while i < n {
-        apart = apart & apart_from_earlier(t, word, i);
+        apart = apart & apart_from_earlier(t, i);
         i += 1;
     }
     apart

@@ -12,7 +12,7 @@ use Rattle.lists.specs.Below.{everyBelow}
 use Rattle.lists.proofs.Below.{every-same, every-split}
 use Rattle.lists.proofs.Pairs.{every-both, every-ext}
 use Rattle.table.specs.Table.{Call, Customer, Table}
-use Rattle.table.specs.Total.{total, totalOf}
+use Rattle.table.specs.Total.{slots}
 use Rattle.table.specs.Word.{isUsed, FreeFrom}
 use Rattle.table.specs.Lists.{Four, callAt, callFour, customerFour, placeAt, isTaken}
 use Rattle.table.specs.Rules.{validIds, fourValid, unusedClear, callFreeClear, callClear, customerFreeClear, slotFreeClear, holds, namesAndIds}
@@ -87,18 +87,18 @@ abbrev pub slotTidy : Table → ℕ → Bool
 slotTidy t i = cond (isUsed (t .occupied) i) (validIds (callAt t i) && callFreeClear (callAt t i)) (callClear (callAt t i))
 
 -- the two rules, of all slots: the slots from n on are free
-pub slots-tidy : (t : Table) (n : ℕ) → n ≤ total → FreeFrom (t .occupied) n
-    → (everyBelow (slotTidy t) n && everyBelow (λ j. callClear (callAt t (n + j))) (total - n)) ≡ (holds namesAndIds t && everyBelow (slotFreeClear t) (totalOf t))
+pub slots-tidy : (t : Table) (n : ℕ) → n ≤ slots → FreeFrom (t .occupied) n
+    → (everyBelow (slotTidy t) n && everyBelow (λ j. callClear (callAt t (n + j))) (slots - n)) ≡ (holds namesAndIds t && everyBelow (slotFreeClear t) slots)
 slots-tidy t n h free =
     let valid : ℕ → Bool = λ i. not (isUsed (t .occupied) i) || validIds (callAt t i) in
-    let all : n + (total - n) ≡ total = omega arith in
-    let rest : everyBelow (λ j. slotTidy t (n + j)) (total - n) ≡ everyBelow (λ j. callClear (callAt t (n + j))) (total - n) =
-    every-same _ _ (total - n) (λ j l. ap (λ b. cond b (validIds (callAt t (n + j)) && callFreeClear (callAt t (n + j))) (callClear (callAt t (n + j)))) (free (n + j) (omega arith))) in
+    let all : n + (slots - n) ≡ slots = omega arith in
+    let rest : everyBelow (λ j. slotTidy t (n + j)) (slots - n) ≡ everyBelow (λ j. callClear (callAt t (n + j))) (slots - n) =
+    every-same _ _ (slots - n) (λ j l. ap (λ b. cond b (validIds (callAt t (n + j)) && callFreeClear (callAt t (n + j))) (callClear (callAt t (n + j)))) (free (n + j) (omega arith) (omega arith))) in
     sym
-    (sym (every-both valid (slotFreeClear t) total)
-    ∙ every-ext _ (slotTidy t) total (λ i. slot-both (isUsed (t .occupied) i) (validIds (callAt t i)) (callFreeClear (callAt t i)) (callClear (callAt t i)))
+    (sym (every-both valid (slotFreeClear t) slots)
+    ∙ every-ext _ (slotTidy t) slots (λ i. slot-both (isUsed (t .occupied) i) (validIds (callAt t i)) (callFreeClear (callAt t i)) (callClear (callAt t i)))
     ∙ ap (λ (m : ℕ). everyBelow (slotTidy t) m) (sym all)
-    ∙ every-split (slotTidy t) n (total - n)
+    ∙ every-split (slotTidy t) n (slots - n)
     ∙ ap (λ b. everyBelow (slotTidy t) n && b) rest)
 
 -- ---- the roster's records

@@ -17,7 +17,7 @@ use Rattle.numbers.specs.Search.{zerosAt}
 use Rattle.lists.specs.Below.{everyBelow}
 use Rattle.lists.proofs.Tests.{both}
 use Rattle.lists.proofs.Below.{every-at}
-use Rattle.table.specs.Total.{total}
+use Rattle.table.specs.Total.{slots}
 use Rattle.table.specs.Lists.{callAt}
 use Rattle.table.specs.Words.{bytesOf, callStart, tableOf}
 use Rattle.table.proofs.Cells.{call-at}
@@ -160,13 +160,13 @@ pub past-none : (s : List ℕ) (n : ℕ) → zerosAt s n (4 * 0 - n) ≡ true
 past-none s n = zeros-each s n (4 * 0 - n) (λ j l m. let z : ⊥ = omega arith in absurd z)
 
 -- a word's first three bytes are below 256 by the table's shape; its fourth is where the word has 32 bits
-bytes-small : (w : List ℕ) (i k : ℕ) → i < total → k < 8 → (m : ℕ) → m < 3 → getD (callAt (tableOf w) i .name) (4 * k + m) 0 < 256
+bytes-small : (w : List ℕ) (i k : ℕ) → i < slots → k < 8 → (m : ℕ) → m < 3 → getD (callAt (tableOf w) i .name) (4 * k + m) 0 < 256
 bytes-small w i k l h m n =
     let x = getD w (callStart i + 8 + k) 0 in
     rw (call-at w i l, name-at w (callStart i + 8) k m h (omega arith))
     (four (λ m. m < 3 → getD (bytesOf x) m 0 < 256) (λ q. omega arith) (λ q. omega arith) (λ q. omega arith) (λ q. let z : ⊥ = omega arith in absurd z) m (omega arith) n)
 
-module _ (w masks : List ℕ) (i k x n : ℕ) (l : i < total) (h : k < 8) (u : n ≤ 32) (a : masks ≡ pastMasks)
+module _ (w masks : List ℕ) (i k x n : ℕ) (l : i < slots) (h : k < 8) (u : n ≤ 32) (a : masks ≡ pastMasks)
     (e : x ≡ wordIn (callAt (tableOf w) i .name) k) (fits : x < 4294967296) where
   abbrev masked : Bool
   masked = eqb (bitAnd x (getD masks (16 * (n % 4) + 8 - n / 4 + k) 0)) 0

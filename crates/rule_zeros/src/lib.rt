@@ -4,7 +4,7 @@ ghost use mathlib.Core.Bool.{cond, _&&_, _||_};
 ghost use Prim.Native.Nat.{_<_};
 ghost use lib.Dec.{eqb, ltb};
 ghost use Rattle.lists.specs.Below.{everyBelow};
-ghost use Rattle.table.specs.Total.{total, totalOf};
+ghost use Rattle.table.specs.Total.{slots};
 ghost use Rattle.table.specs.Word.{isUsed};
 ghost use Rattle.table.specs.Lists.{callAt, customerAt, placeAt, isTaken};
 ghost use Rattle.table.specs.Rules.{validIds, callFreeClear, callClear, customerFreeClear, customerClear, slotFreeClear, recordFreeClear, holds, namesAndIds, freeHoldsZeros};
@@ -17,9 +17,9 @@ mod names;
 use crate::names::PAST;
 use crate::names::ends_at;
 use fours::four_valid;
+use occupancy::is_used;
+use occupancy::used_below;
 use table::layout::Words;
-use table::word::is_used;
-use table::word::used_below;
 use table_words::calls::call_clear;
 use table_words::calls::call_head;
 use table_words::calls::calls_clear_from;
@@ -30,13 +30,12 @@ use table_words::fours::customer_four;
 use table_words::fours::endpoint_at;
 use table_words::fours::place_words;
 use table_words::head::listed;
-use table_words::head::occupied;
 use table_words::ids::is_call_id;
 
 // An open call: a name of 1 to 32 bytes that ends in a byte that is not zero, a Call ID of sixteen bits that is not 0, and
 // zeros past the name, in what requests A6 and A7 will use and in the places that are not taken.
 fn call_tidy(masks: &[u32; 64], t: &Words, i: usize) -> bool
-    requires { ⌜ (i < total) × (now masks ≡ pastMasks) ⌝ }
+    requires { ⌜ (i < slots) × (now masks ≡ pastMasks) ⌝ }
     ensures { λ r. ⌜ r ≡ (validIds (callAt (tableOf (now (t .entry))) i) && callFreeClear (callAt (tableOf (now (t .entry))) i)) ⌝ }
 {
     let c = call_head(t, i);
@@ -52,11 +51,11 @@ fn call_tidy(masks: &[u32; 64], t: &Words, i: usize) -> bool
         & four_valid(t, call_four(t, i))
 }
 
-fn slot_tidy(masks: &[u32; 64], t: &Words, word: u64, i: usize) -> bool
-    requires { ⌜ (i < total) × (now masks ≡ pastMasks) ⌝ }
-    ensures { λ r. ⌜ r ≡ cond (isUsed word i) (validIds (callAt (tableOf (now (t .entry))) i) && callFreeClear (callAt (tableOf (now (t .entry))) i)) (callClear (callAt (tableOf (now (t .entry))) i)) ⌝ }
+fn slot_tidy(masks: &[u32; 64], t: &Words, i: usize) -> bool
+    requires { ⌜ (i < slots) × (now masks ≡ pastMasks) ⌝ }
+    ensures { λ r. ⌜ r ≡ cond (isUsed (tableOf (now (t .entry)) .occupied) i) (validIds (callAt (tableOf (now (t .entry))) i) && callFreeClear (callAt (tableOf (now (t .entry))) i)) (callClear (callAt (tableOf (now (t .entry))) i)) ⌝ }
 {
-    if is_used(word, i) {
+    if is_used(t, i) {
         return call_tidy(masks, t, i);
     }
     call_clear(t, i)
@@ -64,15 +63,14 @@ fn slot_tidy(masks: &[u32; 64], t: &Words, word: u64, i: usize) -> bool
 
 // Names, IDs and zeros in one pass. The slots past the last used one are free: their words are tested in one row.
 fn slots_tidy(t: &Words) -> bool
-    ensures { λ r. ⌜ r ≡ (holds namesAndIds (tableOf (now (t .entry))) && everyBelow (slotFreeClear (tableOf (now (t .entry)))) (totalOf (tableOf (now (t .entry))))) ⌝ }
+    ensures { λ r. ⌜ r ≡ (holds namesAndIds (tableOf (now (t .entry))) && everyBelow (slotFreeClear (tableOf (now (t .entry)))) slots) ⌝ }
 {
     let masks = PAST;
-    let word = occupied(t);
-    let n = used_below(word);
+    let n = used_below(t);
     let mut tidy = true;
     let mut i: usize = 0;
     while i < n {
-        tidy = tidy & slot_tidy(&masks, t, word, i);
+        tidy = tidy & slot_tidy(&masks, t, i);
         i += 1;
     }
     tidy & calls_clear_from(t, n)

@@ -5,7 +5,7 @@ ghost use Prim.Native.Nat.{_-_, _≤_, _<_};
 ghost use lib.Dec.{eqb};
 ghost use lib.ListN.{getD};
 ghost use Rattle.numbers.specs.Search.{zerosAt};
-ghost use Rattle.table.specs.Total.{total};
+ghost use Rattle.table.specs.Total.{slots};
 ghost use Rattle.table.specs.Lists.{callAt};
 ghost use Rattle.table.specs.Words.{tableOf};
 ghost use Rattle.rule_zeros.specs.Masks.{pastMasks};
@@ -84,7 +84,7 @@ pub const PAST: [u32; 64] = [
 // A name ends at its size, which the caller has tested: its last byte is not zero, and zeros stand past it. The masks are
 // lent: a constant array is stored anew wherever it is named.
 pub fn ends_at(masks: &[u32; 64], t: &Words, i: usize, size: usize) -> bool
-    requires { ⌜ (i < total) × (0 < size) × (size ≤ 32) × (now masks ≡ pastMasks) ⌝ }
+    requires { ⌜ (i < slots) × (0 < size) × (size ≤ 32) × (now masks ≡ pastMasks) ⌝ }
     ensures { λ r. ⌜ r ≡ (zerosAt (callAt (tableOf (now (t .entry))) i .name) size (32 - size) && not (eqb (getD (callAt (tableOf (now (t .entry))) i .name) (size - 1) 0) 0)) ⌝ }
 {
     let row = 16 * (size % 4) + 8 - size / 4;

@@ -6,6 +6,7 @@ use rule_connections::connections_once;
 use rule_keys::keys_apart;
 use rule_limits::roster_holds;
 use rule_limits::shares_hold;
+use rule_limits::slots_within_total;
 use rule_uniqueness::ids_once;
 use rule_zeros::names_and_zeros;
 use table::layout::Words;
@@ -15,7 +16,7 @@ use table::layout::Words;
 pub fn rules_hold(t: &Words) -> bool
     ensures { λ r. ⌜ r ≡ rulesHold (tableOf (now (t .entry))) ⌝ }
 {
-    if !(roster_holds(t) & names_and_zeros(t)) {
+    if !(roster_holds(t) & slots_within_total(t) & names_and_zeros(t)) {
         return false;
     }
     if !shares_hold(t) {

@@ -10,7 +10,7 @@ use Rattle.lists.specs.Count.{countIf, has}
 use Rattle.lists.proofs.Count.{true-has, false-has}
 use Rattle.lists.proofs.Below.{count-element, count-at}
 use Rattle.table.specs.Table.{Call, Table}
-use Rattle.table.specs.Total.{totalOf}
+use Rattle.table.specs.Total.{slots}
 use Rattle.table.specs.Word.{isUsed}
 use Rattle.table.specs.Lists.{Entry, idsOf, callAt, openAt, entries, callFour, connectionAt, held}
 use Rattle.spec_changes.specs.Connections.{isCallOf, callMissing}
@@ -22,8 +22,8 @@ own-call : (c : Call) (j i : ℕ) → isCallOf (connectionAt (callFour c) j) (re
 own-call c j i = rw (eq-eqb (c .id) (c .id) refl, eq-eqb (c .endpoint) (c .endpoint) refl, eq-eqb (c .sender) (c .sender) refl)
 
 -- a used slot's call is the call of what stands under it
-has-call : (t : Table) (i : ℕ) → i < totalOf t → isUsed (t .occupied) i ≡ true → (j : ℕ) → has (isCallOf (connectionAt (callFour (callAt t i)) j)) (entries t) ≡ true
-has-call t i l u j = true-has test (entries t) (omega (arith, count-at (openAt t) test i (totalOf t) l, here))
+has-call : (t : Table) (i : ℕ) → i < slots → isUsed (t .occupied) i ≡ true → (j : ℕ) → has (isCallOf (connectionAt (callFour (callAt t i)) j)) (entries t) ≡ true
+has-call t i l u j = true-has test (entries t) (omega (arith, count-at (openAt t) test i slots l, here))
   where
     test : Entry → Bool
     test = isCallOf (connectionAt (callFour (callAt t i)) j)

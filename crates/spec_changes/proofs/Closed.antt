@@ -1,17 +1,19 @@
 -- The table with a call closed: one entry less, the same connections, since the call had none, and every rule kept.
 -- Assumes nothing.
-use Prim.Native.Nat.{ℕ, _+_, _≤_, _<_}
+use Prim.Native.Nat.{ℕ, _+_, _/_, _<_}
 use native.Mathlib.Omega.{arith}
 use mathlib.Core.Path.{_≡_, refl, sym, _∙_}
-use mathlib.Core.Bool.{Bool, true, false}
+use mathlib.Core.List.{List}
+use mathlib.Core.Bool.{Bool, true, false, true≢false}
 use lib.Dec.{eqb}
+use lib.ListN.{length}
 use borrow.Author.Tests.{eqb-true, eq-eqb}
 use Rattle.lists.specs.Count.{bit, countIf}
 use Rattle.lists.proofs.Tests.{both}
 use Rattle.lists.proofs.Count.{count-le}
 use Rattle.lists.proofs.Shown.{count-shown}
 use Rattle.table.specs.Table.{Call, Table}
-use Rattle.table.specs.Total.{totalOf}
+use Rattle.table.specs.Total.{slots, totalOf}
 use Rattle.table.specs.Word.{isUsed, withFree}
 use Rattle.table.specs.Zeros.{noCall}
 use Rattle.table.specs.Lists.{roster, Ids, Entry, callAt, idsOf, entries, Held, callFour, placeAt, isTaken, connectionAt, heldIn, held}
@@ -22,7 +24,7 @@ use Rattle.spec_changes.specs.Shape.{Shape}
 use Rattle.spec_changes.specs.Calls.{isCall, slotOf, closed}
 use Rattle.spec_changes.specs.Connections.{isUnder}
 use Rattle.spec_changes.proofs.Kept.{Kept, calls-fewer}
-use Rattle.spec_changes.proofs.Slot.{found-slot, slot-entries, slot-held, slot-names, slot-free-clear, slot-shape}
+use Rattle.spec_changes.proofs.Slot.{found-slot, slot-entries, slot-held, slot-names, slot-within, slot-free-clear, slot-shape}
 
 -- what stands in the slot of a call with this pair and short ID stands under the call
 stands-under : (c : Ids) (d : Call) → sameShort c (idsOf d) ≡ true → (j : ℕ) → isUnder c (connectionAt (callFour d) j) ≡ true
@@ -36,41 +38,44 @@ module _ (t : Table) (c : Ids) (s : Shape t) (h : 0 < countIf (isCall c) (entrie
   abbrev slot : ℕ
   slot = slotOf t (isCall c)
 
-  abbrev word : ℕ
-  word = withFree (t .occupied) slot
+  abbrev words : List ℕ
+  words = withFree (t .occupied) slot
 
   -- the slot found is used by the call
-  pub closed-slot : (slotOf t (isCall c) < totalOf t) × (isUsed (t .occupied) (slotOf t (isCall c)) ≡ true)
+  pub closed-slot : (slotOf t (isCall c) < slots) × (isUsed (t .occupied) (slotOf t (isCall c)) ≡ true)
       × (isCall c (record { slot = slotOf t (isCall c); ids = idsOf (callAt t (slotOf t (isCall c))) }) ≡ true)
   closed-slot = found-slot t (isCall c) h
 
-  inside : slot < totalOf t
+  inside : slot < slots
   inside = closed-slot .0
 
   was : isUsed (t .occupied) slot ≡ true
   was = closed-slot .1
 
-  is : isUsed word slot ≡ false
-  is = free-here (t .occupied) slot
+  within-words : slot / 64 < length (t .occupied)
+  within-words = omega (arith, inside, s .words .four)
 
-  other : (j : ℕ) → (j ≡ slot → ⊥) → isUsed word j ≡ isUsed (t .occupied) j
-  other = free-other (t .occupied) slot
+  is : isUsed words slot ≡ false
+  is = free-here (t .occupied) slot within-words
+
+  other : (j : ℕ) → (j ≡ slot → ⊥) → isUsed words j ≡ isUsed (t .occupied) j
+  other = free-other (t .occupied) slot within-words
 
   -- one entry less
   pub closed-entries : (p : Entry → Bool)
       → countIf p (entries t) ≡ bit (p (record { slot = slotOf t (isCall c); ids = idsOf (callAt t (slotOf t (isCall c))) })) + countIf p (entries (closed t c))
   unfolding closed
-  closed-entries p = omega (arith, (rw (was, is) at (slot-entries t word slot noCall inside (s .calls) other p)))
+  closed-entries p = omega (arith, (rw (was, is) at (slot-entries t words slot noCall inside (s .calls) other p)))
 
   pub closed-shape : Shape (closed t c)
   unfolding closed noCall
-  closed-shape = slot-shape t word slot noCall inside (s .calls) s (free-fits (t .occupied) slot (s .word)) refl
+  closed-shape = slot-shape t words slot noCall inside (s .calls) s (free-fits (t .occupied) slot (s .words) (omega (arith, inside))) refl
 
   -- the call has no connections: 32 comes before 22
   module _ (idle : countIf (isUnder c) (held t) ≡ 0) where
     emptied : (p : Held → Bool) → countIf p (held (closed t c)) + countIf p (heldIn (callFour (callAt t slot))) ≡ countIf p (held t) + 0
     unfolding closed
-    emptied p = rw (was, is) at (slot-held t word slot noCall inside (s .calls) other p)
+    emptied p = rw (was, is) at (slot-held t words slot noCall inside (s .calls) other p)
 
     nothing : (p : Held → Bool) → countIf p (heldIn (callFour (callAt t slot))) ≡ 0
     nothing p =
@@ -93,9 +98,10 @@ module _ (t : Table) (c : Ids) (s : Shape t) (h : 0 < countIf (isCall c) (entrie
     unfolding closed rosterHolds
     closed-kept k = record {
       accepted = k .accepted;
+      within = slot-within t words slot noCall inside (s .calls) other (totalOf t) (k .within) (λ u. let z : true ≡ false = sym u ∙ is in absurd (true≢false z));
       calls = calls-fewer (totalOf t) (roster t) (entries (closed t c)) (entries t) (λ p. omega (arith, closed-entries p)) (k .calls);
       once = λ x. rw (closed-held (sameConnection x)) (k .once x);
-      names = slot-names t word slot noCall inside (s .calls) other (k .names) (λ u. let z = sym is ∙ u in cc);
-      slots = slot-free-clear t word slot noCall inside (s .calls) other (k .slots) (rw is free-clear);
+      names = slot-names t words slot noCall inside (s .calls) other (k .names) (λ u. let z = sym is ∙ u in cc);
+      slots = slot-free-clear t words slot noCall inside (s .calls) other (k .slots) (rw is free-clear);
       records = k .records;
     }

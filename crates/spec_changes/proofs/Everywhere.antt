@@ -9,7 +9,7 @@ use Rattle.lists.specs.Below.{below}
 use Rattle.lists.proofs.Count.{count-append}
 use Rattle.lists.proofs.Below.{count-nowhere, count-not-element, count-not-list-if}
 use Rattle.table.specs.Table.{Table}
-use Rattle.table.specs.Total.{totalOf}
+use Rattle.table.specs.Total.{slots}
 use Rattle.table.specs.Word.{isUsed}
 use Rattle.table.specs.Lists.{customerAt, callAt, Held, Four, callFour, customerFour, placeAt, isTaken, connectionAt, heldPlace, heldIn, heldAt, standaloneAt, held}
 
@@ -22,9 +22,9 @@ module _ (p : Held → Bool) where
   none-in f h = count-nowhere p (heldPlace f) 4 (λ j l. count-not-element p (isTaken (placeAt f j)) (connectionAt f j) (h j l))
 
   module _ (t : Table) where
-    pub none-under : ((i : ℕ) → i < totalOf t → isUsed (t .occupied) i ≡ true → NoneOf (callFour (callAt t i))) → countIf p (below (heldAt t) (totalOf t)) ≡ 0
+    pub none-under : ((i : ℕ) → i < slots → isUsed (t .occupied) i ≡ true → NoneOf (callFour (callAt t i))) → countIf p (below (heldAt t) slots) ≡ 0
     none-under h =
-        count-nowhere p (heldAt t) (totalOf t)
+        count-nowhere p (heldAt t) slots
         (λ i l. count-not-list-if p (isUsed (t .occupied) i) (heldIn (callFour (callAt t i))) (λ u. none-in (callFour (callAt t i)) (h i l u)))
 
     pub none-standalone : ((k : ℕ) → k < 8 → ltb k (t .listed) ≡ true → NoneOf (customerFour (customerAt t k))) → countIf p (below (standaloneAt t) 8) ≡ 0
@@ -32,6 +32,6 @@ module _ (p : Held → Bool) where
         count-nowhere p (standaloneAt t) 8
         (λ k l. count-not-list-if p (ltb k (t .listed)) (heldIn (customerFour (customerAt t k))) (λ u. none-in (customerFour (customerAt t k)) (h k l u)))
 
-    pub none-held : ((i : ℕ) → i < totalOf t → isUsed (t .occupied) i ≡ true → NoneOf (callFour (callAt t i)))
+    pub none-held : ((i : ℕ) → i < slots → isUsed (t .occupied) i ≡ true → NoneOf (callFour (callAt t i)))
         → ((k : ℕ) → k < 8 → ltb k (t .listed) ≡ true → NoneOf (customerFour (customerAt t k))) → countIf p (held t) ≡ 0
-    none-held a b = count-append p (below (heldAt t) (totalOf t)) (below (standaloneAt t) 8) ∙ rw (none-under a, none-standalone b)
+    none-held a b = count-append p (below (heldAt t) slots) (below (standaloneAt t) 8) ∙ rw (none-under a, none-standalone b)

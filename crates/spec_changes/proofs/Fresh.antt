@@ -1,4 +1,4 @@
--- The table of a roster's bytes has the shape of every table.
+-- The table of a roster's bytes, accepted or refused, has the shape of every table.
 -- Assumes nothing.
 use Prim.Native.Nat.{ℕ}
 use native.Mathlib.Omega.{arith}
@@ -6,12 +6,14 @@ use mathlib.Core.Path.{_≡_, refl}
 use mathlib.Core.List.{List}
 use mathlib.Core.Bool.{Bool, true, false, cond}
 use lib.Dec.{ltb}
-use lib.ListN.{length, length-replicate, getD-replicate}
+use lib.ListN.{length, replicate, length-replicate, getD-replicate}
 use Rattle.lists.proofs.Below.{length-each, getD-each}
 use Rattle.table.specs.Table.{Customer}
-use Rattle.table.specs.Total.{total}
-use Rattle.table.specs.Zeros.{noCall, noCustomer, pastCall, pastCustomer}
+use Rattle.table.specs.Total.{slots}
+use Rattle.table.specs.Word.{FourWords}
+use Rattle.table.specs.Zeros.{noCall, noCustomer, emptyTable, pastCall, pastCustomer}
 use Rattle.table.specs.Roster.{customersIn, customerIn, customersFrom, freshTable}
+use Rattle.table.proofs.Fresh.{zero-at}
 use Rattle.spec_changes.specs.Shape.{Shape}
 
 -- a record of the roster, or an unused one behind it
@@ -26,13 +28,28 @@ four-each s k = by (ltb k (customersIn s))
     by true = (refl, refl)
     by false = (refl, refl)
 
+-- no slot is used
+no-words : FourWords (replicate 4 0)
+no-words = record { four = refl; word = λ k. omega (arith, zero-at 4 k) }
+
 pub fresh-shape : (s : List ℕ) → Shape (freshTable s)
 unfolding freshTable customersFrom noCall
 fresh-shape s = record {
-  calls = omega (arith, length-replicate total noCall);
+  calls = omega (arith, length-replicate slots noCall);
   customers = length-each (recordAt s) 8;
-  word = omega arith;
-  places = λ i h. rw (getD-replicate total i noCall pastCall h);
+  words = no-words;
+  places = λ i h. rw (getD-replicate slots i noCall pastCall h);
   endpoints = λ k h. rw (getD-each (recordAt s) 8 k pastCustomer h) (four-each s k .0);
   standalonePlaces = λ k h. rw (getD-each (recordAt s) 8 k pastCustomer h) (four-each s k .1);
+}
+
+pub empty-shape : Shape emptyTable
+unfolding emptyTable noCall noCustomer
+empty-shape = record {
+  calls = omega (arith, length-replicate slots noCall);
+  customers = length-replicate 8 noCustomer;
+  words = no-words;
+  places = λ i h. rw (getD-replicate slots i noCall pastCall h);
+  endpoints = λ k h. rw (getD-replicate 8 k noCustomer pastCustomer h);
+  standalonePlaces = λ k h. rw (getD-replicate 8 k noCustomer pastCustomer h);
 }

@@ -12,8 +12,8 @@ use borrow.Author.Tests.{eqb-true, ltb-true, ltb-false}
 use Rattle.lists.specs.Count.{bit, countIf}
 use Rattle.lists.proofs.Count.{has-true, count-ext}
 use Rattle.table.specs.Table.{Table}
-use Rattle.table.specs.Total.{totalOf}
-use Rattle.table.specs.Word.{isUsed}
+use Rattle.table.specs.Total.{slots, totalOf}
+use Rattle.table.specs.Word.{bits, isUsed}
 use Rattle.table.specs.Lists.{Terms, roster, Ids, Entry, callAt, entries, Held, held}
 use Rattle.table.specs.Share.{isAt, isListed, guaranteeOf, limitOf, from, callsOf, S}
 use Rattle.table.specs.Rules.{badShare, guarantees, rosterHolds, unlisted, sameShort, sameLong, validIds, sameConnection, slotFreeClear, recordFreeClear}
@@ -37,10 +37,11 @@ pub record CallsKept (total : ℕ) (r : List Terms) (l : List Entry) : Type 0 wh
 -- all rules on a table
 pub record Kept (t : Table) : Type 0 where
   pub accepted : rosterHolds t ≡ true
+  pub within : (i : ℕ) → i < bits → isUsed (t .occupied) i ≡ true → i < totalOf t
   pub calls : CallsKept (totalOf t) (roster t) (entries t)
   pub once : (x : Held) → countIf (sameConnection x) (held t) ≤ 1
-  pub names : (i : ℕ) → i < totalOf t → isUsed (t .occupied) i ≡ true → validIds (callAt t i) ≡ true
-  pub slots : (i : ℕ) → i < totalOf t → slotFreeClear t i ≡ true
+  pub names : (i : ℕ) → i < slots → isUsed (t .occupied) i ≡ true → validIds (callAt t i) ≡ true
+  pub slots : (i : ℕ) → i < slots → slotFreeClear t i ≡ true
   pub records : (k : ℕ) → k < 8 → recordFreeClear t k ≡ true
 
 -- fewer calls keep the rules, and so do the same calls in another order

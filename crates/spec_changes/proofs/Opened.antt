@@ -1,7 +1,7 @@
 -- The table with a call opened: one entry more, the same connections, and every rule kept. Why there is a free slot for
 -- it.
 -- Assumes nothing.
-use Prim.Native.Nat.{ℕ, zero, suc, _+_, _-_, _≤_, _<_}
+use Prim.Native.Nat.{ℕ, zero, suc, _+_, _-_, _/_, _≤_, _<_}
 use native.Mathlib.Nat.{add-assoc, add-zero}
 use native.Mathlib.Omega.{arith}
 use mathlib.Core.Path.{_≡_, refl, sym, ap, _∙_}
@@ -19,18 +19,20 @@ use Rattle.lists.specs.Count.{bit, countIf}
 use Rattle.lists.specs.Below.{elementIf, below, everyBelow}
 use Rattle.lists.proofs.Below.{count-element, below-ext, below-nothing, below-one, length-each}
 use Rattle.table.specs.Table.{Call, Table}
-use Rattle.table.specs.Total.{totalOf}
-use Rattle.table.specs.Word.{isUsed, lowestFree, withUsed}
+use Rattle.table.specs.Total.{slots, totalOf}
+use Rattle.table.specs.Word.{bits, isUsed, lowestFree, withUsed}
 use Rattle.table.specs.Lists.{roster, Ids, Entry, callAt, idsOf, openAt, entries, Held, callFour, heldIn, held}
 use Rattle.table.specs.Share.{isAt}
 use Rattle.table.specs.Rules.{rosterHolds, validIds, sameConnection, placeClear, placeValid, callFreeClear}
 use Rattle.table.specs.Stores.{withSlot}
-use Rattle.table.proofs.Slots.{lowest-below, lowest-here, used-here, used-other, used-fits}
+use Rattle.table.proofs.Fresh.{zero-at}
+use Rattle.table.proofs.Slots.{lowest-below, lowest-here, used-here, used-other, used-fits, open-rest}
+use Rattle.table.proofs.Within.{total-most}
 use Rattle.spec_changes.specs.Shape.{Shape}
 use Rattle.spec_changes.specs.Calls.{stored, opened}
 use Rattle.spec_changes.proofs.Valid.{named-ids}
 use Rattle.spec_changes.proofs.Kept.{Kept, MayOpen, room-for, calls-open}
-use Rattle.spec_changes.proofs.Slot.{slot-entries, slot-held, slot-names, slot-free-clear, slot-shape}
+use Rattle.spec_changes.proofs.Slot.{slot-entries, slot-held, slot-names, slot-within, slot-free-clear, slot-shape}
 
 -- ---- the slots
 
@@ -40,13 +42,13 @@ entryAt t i = record { slot = i; ids = idsOf (callAt t i) }
 abbrev inSlot : ℕ → Entry → Bool
 inSlot j e = eqb j (e .slot)
 
--- the ledger's slots are the word's
-pub slot-used : (t : Table) (j : ℕ) → j < totalOf t → countIf (λ e. eqb j (e .slot)) (entries t) ≡ bit (isUsed (t .occupied) j)
+-- the ledger's slots are the words'
+pub slot-used : (t : Table) (j : ℕ) → j < slots → countIf (λ e. eqb j (e .slot)) (entries t) ≡ bit (isUsed (t .occupied) j)
 slot-used t j h =
     omega (
       arith,
-      below-one (openAt t) (λ i. []) (inSlot j) j (totalOf t) h elsewhere,
-      ap (countIf (inSlot j)) (below-nothing (λ i. []) (totalOf t) (λ i l. refl)),
+      below-one (openAt t) (λ i. []) (inSlot j) j slots h elsewhere,
+      ap (countIf (inSlot j)) (below-nothing (λ i. []) slots (λ i l. refl)),
       own,
     )
   where
@@ -59,21 +61,29 @@ slot-used t j h =
     elsewhere : (i : ℕ) → (i ≡ j → ⊥) → countIf (inSlot j) (openAt t i) ≡ 0
     elsewhere i n = rw (at i, ne-eqb j i (λ e. n (sym e)), and-false (isUsed (t .occupied) i))
 
--- fewer calls than slots leave a free one
-pub free-slot : (t : Table) → length (entries t) < totalOf t → lowestFree (t .occupied) < totalOf t
+-- no call stands outside the total
+pub outside-free : (t : Table) → Kept t → (i : ℕ) → totalOf t ≤ i → i < bits → isUsed (t .occupied) i ≡ false
+outside-free t k i l m = by (isUsed (t .occupied) i) refl
+  where
+    by : (b : Bool) → isUsed (t .occupied) i ≡ b → b ≡ false
+    by true u = let z : ⊥ = omega (arith, k .within i m u) in absurd z
+    by false u = refl
+
+-- fewer calls than the total leave a free slot below it: the calls are those of the slots below it
+pub free-slot : (t : Table) → Kept t → length (entries t) < totalOf t → lowestFree (t .occupied) < totalOf t
 unfolding elementIf
-free-slot t h = by (ltb (lowestFree (t .occupied)) (totalOf t)) refl
+free-slot t k h = by (ltb (lowestFree (t .occupied)) (totalOf t)) refl
   where
     by : (b : Bool) → ltb (lowestFree (t .occupied)) (totalOf t) ≡ b → lowestFree (t .occupied) < totalOf t
     by true e = ltb-true _ _ e
     by false e =
         let f : totalOf t ≤ lowestFree (t .occupied) = ltb-false _ _ e in
         let all = below-ext (openAt t) (λ i. entryAt t i ∷ []) (totalOf t) (λ i l. rw (lowest-below (t .occupied) i (omega arith))) in
-        omega (arith, ap length all ∙ length-each (entryAt t) (totalOf t))
+        omega (arith, ap length (open-rest t (totalOf t) (total-most (t .form)) (λ i l m. outside-free t k i l (omega arith)) ∙ all) ∙ length-each (entryAt t) (totalOf t))
 
 -- a slot that is taken keeps the shape
-pub used-shape : (t : Table) (i : ℕ) (c : Call) → Shape t → i < totalOf t → length (c .places) ≡ 4 → Shape (withSlot t (withUsed (t .occupied) i) i c)
-used-shape t i c s inside p = slot-shape t (withUsed (t .occupied) i) i c inside (s .calls) s (used-fits (t .occupied) i (s .word) inside) p
+pub used-shape : (t : Table) (i : ℕ) (c : Call) → Shape t → i < slots → length (c .places) ≡ 4 → Shape (withSlot t (withUsed (t .occupied) i) i c)
+used-shape t i c s inside p = slot-shape t (withUsed (t .occupied) i) i c inside (s .calls) s (used-fits (t .occupied) i (s .words) (omega arith)) p
 
 -- ---- the call as the slot holds it
 
@@ -83,11 +93,6 @@ zeros n = replicate n 0
 -- a stored call is read back
 pub stored-ids : (c : Ids) → idsOf (stored c) ≡ c
 stored-ids c = rw (front-taken (c .long) (zeros 32) (length (c .long)) refl)
-
-zero-at : (n i : ℕ) → getD (zeros n) i 0 ≡ 0
-zero-at zero i = refl
-zero-at (suc n) zero = refl
-zero-at (suc n) (suc i) = zero-at n i
 
 zeros-behind : (x : List ℕ) (i n : ℕ) → zerosAt (atFront x (zeros 32)) (length x + i) n ≡ true
 unfolding zerosAt atFront
@@ -110,41 +115,48 @@ module _ (t : Table) (c : Ids) (s : Shape t) (free : lowestFree (t .occupied) < 
   abbrev slot : ℕ
   slot = lowestFree (t .occupied)
 
-  abbrev word : ℕ
-  word = withUsed (t .occupied) slot
+  abbrev words : List ℕ
+  words = withUsed (t .occupied) slot
+
+  inside : slot < slots
+  inside = omega (arith, free, total-most (t .form))
 
   was : isUsed (t .occupied) slot ≡ false
-  was = lowest-here (t .occupied) free
+  was = lowest-here (t .occupied) (omega (arith, inside))
 
-  is : isUsed word slot ≡ true
-  is = used-here (t .occupied) slot
+  within-words : slot / 64 < length (t .occupied)
+  within-words = omega (arith, inside, s .words .four)
 
-  other : (j : ℕ) → (j ≡ slot → ⊥) → isUsed word j ≡ isUsed (t .occupied) j
-  other = used-other (t .occupied) slot
+  is : isUsed words slot ≡ true
+  is = used-here (t .occupied) slot within-words
+
+  other : (j : ℕ) → (j ≡ slot → ⊥) → isUsed words j ≡ isUsed (t .occupied) j
+  other = used-other (t .occupied) slot within-words
 
   -- one entry more
   pub opened-entries : (p : Entry → Bool)
       → countIf p (entries (opened t c)) ≡ bit (p (record { slot = lowestFree (t .occupied); ids = c })) + countIf p (entries t)
   unfolding opened
-  opened-entries p = omega (arith, (rw (was, is, stored-ids c) at (slot-entries t word slot (stored c) free (s .calls) other p)))
+  opened-entries p = omega (arith, (rw (was, is, stored-ids c) at (slot-entries t words slot (stored c) inside (s .calls) other p)))
 
   -- the same connections
   pub opened-held : (p : Held → Bool) → countIf p (held (opened t c)) ≡ countIf p (held t)
   unfolding opened
-  opened-held p = omega (arith, (rw (was, is, none-under c) at (slot-held t word slot (stored c) free (s .calls) other p)))
+  opened-held p = omega (arith, (rw (was, is, none-under c) at (slot-held t words slot (stored c) inside (s .calls) other p)))
 
   pub opened-shape : Shape (opened t c)
   unfolding opened
-  opened-shape = used-shape t slot (stored c) s free refl
+  opened-shape = used-shape t slot (stored c) s inside refl
 
   keeps : Kept t → MayOpen (totalOf t) (roster t) (entries t) c → ((a : ℕ) → countIf (isAt a) (roster t) ≤ 1) → validIds (stored c) ≡ true → Kept (opened t c)
   unfolding opened rosterHolds
   keeps k m d n = record {
     accepted = k .accepted;
+    within = slot-within t words slot (stored c) inside (s .calls) other (totalOf t) (k .within) (λ u. free);
     calls = calls-open (totalOf t) (roster t) (entries t) c (k .calls) m slot (entries (opened t c)) d opened-entries;
     once = λ x. rw (opened-held (sameConnection x)) (k .once x);
-    names = slot-names t word slot (stored c) free (s .calls) other (k .names) (λ u. n);
-    slots = slot-free-clear t word slot (stored c) free (s .calls) other (k .slots) (rw is (stored-free-clear c));
+    names = slot-names t words slot (stored c) inside (s .calls) other (k .names) (λ u. n);
+    slots = slot-free-clear t words slot (stored c) inside (s .calls) other (k .slots) (rw is (stored-free-clear c));
     records = k .records;
   }
 
@@ -160,5 +172,5 @@ stored-ends c some ends e =
 pub opened-kept : (t : Table) (c : Ids) → Shape t → Kept t → MayOpen (totalOf t) (roster t) (entries t) c → ((a : ℕ) → countIf (isAt a) (roster t) ≤ 1)
     → 0 < c .short → c .short < 0x10000 → 0 < length (c .long) → length (c .long) ≤ 32 → ((k : ℕ) → length (c .long) ≡ suc k → getD (c .long) k 0 ≢ 0) → Kept (opened t c)
 opened-kept t c s k m d short fits some few ends =
-    keeps t c s (free-slot t (room-for (totalOf t) (roster t) (entries t) c (k .calls) m)) k m d
+    keeps t c s (free-slot t k (room-for (totalOf t) (roster t) (entries t) c (k .calls) m)) k m d
     (named-ids (stored c) (record { some = short; fits = fits; long = some; most = few; ends = stored-ends c some ends }))

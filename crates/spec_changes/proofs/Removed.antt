@@ -12,7 +12,7 @@ use Rattle.lists.specs.Below.{below, placeOf}
 use Rattle.lists.proofs.Count.{has-true, has-false, count-append, count-gone}
 use Rattle.lists.proofs.Below.{count-element}
 use Rattle.table.specs.Table.{Table}
-use Rattle.table.specs.Total.{totalOf}
+use Rattle.table.specs.Total.{slots}
 use Rattle.table.specs.Word.{isUsed}
 use Rattle.table.specs.Zeros.{noPlace}
 use Rattle.table.specs.Lists.{customerAt, roster, Entry, callAt, entries, Lsp, Held, Four, callFour, customerFour, placeAt, isTaken, connectionAt, heldIn, heldAt, standaloneAt, held}
@@ -57,13 +57,13 @@ unfolding placeValid placeClear
 valid = refl
 
 module _ (t : Table) (x : Lsp) (s : Shape t) where
-  removes-under : 0 < countIf (isLsp x) (below (heldAt t) (totalOf t)) → Removes t (removedUnder t (placeOf (heldAt t) (isLsp x) (totalOf t)) x) x
+  removes-under : 0 < countIf (isLsp x) (below (heldAt t) slots) → Removes t (removedUnder t (placeOf (heldAt t) (isLsp x) slots) x) x
   unfolding removedUnder
   removes-under h =
-      let i = placeOf (heldAt t) (isLsp x) (totalOf t) in
+      let i = placeOf (heldAt t) (isLsp x) slots in
       let c = callAt t i in
       let j = placeWith (callFour c) x in
-      let f = found-row (isLsp x) (isUsed (t .occupied)) (λ i. heldIn (callFour (callAt t i))) (totalOf t) h in
+      let f = found-row (isLsp x) (isUsed (t .occupied)) (λ i. heldIn (callFour (callAt t i))) slots h in
       removes-in t _ x (callFour c) (callFour (withPlace c j noPlace)) (under-place t s i j noPlace (f .0) (f .1) valid) (f .2)
       (λ l. rw (getD-set-same (c .places) j noPlace noPlace (omega (arith, s .places i (f .0)))))
 
@@ -80,17 +80,17 @@ module _ (t : Table) (x : Lsp) (s : Shape t) where
 module _ (t : Table) (x : Lsp) (s : Shape t) (h : 0 < countIf (isLsp x) (held t)) where
   removes : Removes t (removed t x) x
   unfolding removed
-  removes = by (has (isLsp x) (below (heldAt t) (totalOf t))) refl
+  removes = by (has (isLsp x) (below (heldAt t) slots)) refl
     where
-      by : (b : Bool) → has (isLsp x) (below (heldAt t) (totalOf t)) ≡ b
-          → Removes t (cond b (removedUnder t (placeOf (heldAt t) (isLsp x) (totalOf t)) x) (removedStandalone t (placeOf (standaloneAt t) (isLsp x) 8) x)) x
-      by true e = removes-under t x s (has-true (isLsp x) (below (heldAt t) (totalOf t)) e)
+      by : (b : Bool) → has (isLsp x) (below (heldAt t) slots) ≡ b
+          → Removes t (cond b (removedUnder t (placeOf (heldAt t) (isLsp x) slots) x) (removedStandalone t (placeOf (standaloneAt t) (isLsp x) 8) x)) x
+      by true e = removes-under t x s (has-true (isLsp x) (below (heldAt t) slots) e)
       by false e =
           removes-standalone t x s
           (omega (
             arith,
-            has-false (isLsp x) (below (heldAt t) (totalOf t)) e,
-            count-append (isLsp x) (below (heldAt t) (totalOf t)) (below (standaloneAt t) 8),
+            has-false (isLsp x) (below (heldAt t) slots) e,
+            count-append (isLsp x) (below (heldAt t) slots) (below (standaloneAt t) 8),
           ))
 
   pub removed-roster : roster (removed t x) ≡ roster t

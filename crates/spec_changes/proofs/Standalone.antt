@@ -14,7 +14,7 @@ use Rattle.lists.proofs.Tests.{both}
 use Rattle.lists.proofs.Count.{count-append}
 use Rattle.lists.proofs.Below.{below-ext, below-one, every-within, every-at}
 use Rattle.table.specs.Table.{Place, Customer, Table}
-use Rattle.table.specs.Total.{totalOf}
+use Rattle.table.specs.Total.{slots}
 use Rattle.table.specs.Zeros.{noPlace, pastCustomer}
 use Rattle.table.specs.Lists.{customerAt, termsOf, listedAt, roster, Held, customerFour, placeAt, isTaken, heldIn, heldAt, standaloneAt, held}
 use Rattle.table.specs.Rules.{rosterHolds, sameConnection, placeValid, fourValid, customerFreeClear, customerClear}
@@ -49,7 +49,7 @@ module _ (t : Table) (s : Shape t) (k j e : ℕ) (q : Place) (inside : k < 8) (k
   standalone-shape = record {
     calls = s .calls;
     customers = length-set (t .customers) k d ∙ s .customers;
-    word = s .word;
+    words = s .words;
     places = s .places;
     endpoints = by-record (λ i x. length (x .endpoints) ≡ 4) (length-set (c .endpoints) j e ∙ s .endpoints k inside) (s .endpoints);
     standalonePlaces = by-record (λ i x. length (x .places) ≡ 4) (length-set (c .places) j q ∙ s .standalonePlaces k inside) (s .standalonePlaces);
@@ -62,8 +62,8 @@ module _ (t : Table) (s : Shape t) (k j e : ℕ) (q : Place) (inside : k < 8) (k
       let new : countIf p (standaloneAt u k) ≡ countIf p (heldIn (customerFour d)) = rw (known, getD-set-same (t .customers) k d pastCustomer (omega (arith, s .customers))) in
       omega (
         arith,
-        count-append p (below (heldAt t) (totalOf t)) (below (standaloneAt u) 8),
-        count-append p (below (heldAt t) (totalOf t)) (below (standaloneAt t) 8),
+        count-append p (below (heldAt t) slots) (below (standaloneAt u) 8),
+        count-append p (below (heldAt t) slots) (below (standaloneAt t) 8),
         below-one (standaloneAt u) (standaloneAt t) p k 8 inside (λ i n. rw (getD-set-other (t .customers) k i d pastCustomer n)),
       )
 
@@ -88,6 +88,7 @@ module _ (t : Table) (s : Shape t) (k j e : ℕ) (q : Place) (inside : k < 8) (k
   unfolding rosterHolds
   standalone-kept valid new i once = record {
     accepted = rw standalone-roster (i .accepted);
+    within = i .within;
     calls = rw standalone-roster (i .calls);
     once = once;
     names = i .names;
@@ -102,7 +103,7 @@ module _ (t : Table) (s : Shape t) (k j e : ℕ) (q : Place) (inside : k < 8) (k
     same = record { roster = standalone-roster; entries = λ p. refl; shape = standalone-shape; kept = standalone-kept valid new };
     within = λ p. omega (
       arith,
-      count-append p (below (heldAt t) (totalOf t)) (below (standaloneAt t) 8),
+      count-append p (below (heldAt t) slots) (below (standaloneAt t) 8),
       row-within p (λ i. ltb i (t .listed)) (λ i. heldIn (customerFour (customerAt t i))) 8 k inside known,
     );
     counts = standalone-counts;

@@ -7,7 +7,7 @@ use mathlib.Core.Logic.{⊎-elim}
 use mathlib.Core.List.{List, [], _∷_}
 use mathlib.Core.Bool.{Bool, true, false, cond, not, _||_, _&&_}
 use lib.Dec.{ltb, leb, eqb}
-use borrow.Author.Tests.{eqb-true, ltb-false, le-ltb, leb-true, le-leb, not-true}
+use borrow.Author.Tests.{eqb-true, ltb-false, lt-ltb, le-ltb, leb-true, le-leb, not-true}
 use Rattle.lists.specs.Count.{bit, countIf, has, noTwo}
 use Rattle.lists.specs.Below.{everyBelow}
 use Rattle.lists.proofs.Tests.{both}
@@ -15,11 +15,12 @@ use Rattle.lists.proofs.Count.{has-true, has-false, true-has, false-has}
 use Rattle.lists.proofs.Below.{every-at, every-within}
 use Rattle.lists.proofs.Once.{no-two-once, once-no-two}
 use Rattle.table.specs.Table.{Table}
-use Rattle.table.specs.Total.{totalOf}
-use Rattle.table.specs.Word.{isUsed}
+use Rattle.table.specs.Total.{slots, totalOf}
+use Rattle.table.specs.Word.{bits, isUsed}
 use Rattle.table.specs.Lists.{Terms, roster, Entry, callAt, entries, Held, held}
 use Rattle.table.specs.Share.{isAt, isListed, guaranteeOf, limitOf, callsOf, S}
-use Rattle.table.specs.Rules.{badShare, sameAddress, guarantees, acceptable, rosterHolds, unlisted, overLimit, sameShort, sameLong, validIds, sameConnection, slotFreeClear, recordFreeClear, rosterAcceptable, sendersListed, withinLimits, shareWithinTotal, shortIdsOnce, longIdsOnce, namesAndIds, connectionsOnce, freeHoldsZeros, holds, rulesHold}
+use Rattle.table.specs.Rules.{badShare, sameAddress, guarantees, acceptable, rosterHolds, unlisted, overLimit, sameShort, sameLong, validIds, sameConnection, slotFreeClear, recordFreeClear, rosterAcceptable, slotsWithinTotal, sendersListed, withinLimits, shareWithinTotal, shortIdsOnce, longIdsOnce, namesAndIds, connectionsOnce, freeHoldsZeros, holds, rulesHold}
+use Rattle.table.proofs.Within.{used-within}
 use Rattle.table.proofs.Addresses.{roster-cases, acceptable-apart}
 use Rattle.spec_changes.proofs.Alike.{self, short-self, long-self, lsp-self, short-alike, long-alike, lsp-alike}
 use Rattle.spec_changes.proofs.Kept.{RosterKept, Kept}
@@ -103,6 +104,10 @@ named : (u w : Bool) → (not u || w) ≡ true → u ≡ true → w ≡ true
 named true w h e = h
 named false w h e = cc
 
+said : (u w : Bool) → (u ≡ true → w ≡ true) → (not u || w) ≡ true
+said true w h = h refl
+said false w h = refl
+
 -- the test says the rules, of any table
 pub rules-kept : (t : Table) → rulesHold t ≡ true → Kept t
 unfolding rulesHold
@@ -114,10 +119,12 @@ rules-kept t h =
     let shorts = both _ (holds shortIdsOnce t) (longs .0) in
     let room = both _ (holds shareWithinTotal t) (shorts .0) in
     let limits = both _ (holds withinLimits t) (room .0) in
-    let senders = both (holds rosterAcceptable t) (holds sendersListed t) (limits .0) in
-    let clear = both (everyBelow (slotFreeClear t) (totalOf t)) (everyBelow (recordFreeClear t) 8) (zeros .1) in
+    let senders = both _ (holds sendersListed t) (limits .0) in
+    let within = both (holds rosterAcceptable t) (holds slotsWithinTotal t) (senders .0) in
+    let clear = both (everyBelow (slotFreeClear t) slots) (everyBelow (recordFreeClear t) 8) (zeros .1) in
     record {
-      accepted = senders .0;
+      accepted = within .0;
+      within = used-within t (within .1);
       calls = record {
         senders = none (unlisted (roster t)) (entries t) (senders .1);
         limits = none-over (roster t) (entries t) (none (overLimit (entries t)) (roster t) (limits .1));
@@ -126,8 +133,8 @@ rules-kept t h =
         longs = no-two-once sameLong (λ (e : Entry). e .ids) long-alike (entries t) (longs .1);
       };
       once = no-two-once sameConnection (λ (x : Held). x) lsp-alike (held t) (once .1);
-      names = λ i l. named (isUsed (t .occupied) i) (validIds (callAt t i)) (every-at _ (totalOf t) (names .1) i l);
-      slots = every-at (slotFreeClear t) (totalOf t) (clear .0);
+      names = λ i l. named (isUsed (t .occupied) i) (validIds (callAt t i)) (every-at _ slots (names .1) i l);
+      slots = every-at (slotFreeClear t) slots (clear .0);
       records = every-at (recordFreeClear t) 8 (clear .1);
     }
 
@@ -137,20 +144,17 @@ unfolding rulesHold
 kept-rules t k =
     rw (
       k .accepted,
+      every-within (λ i. not (isUsed (t .occupied) i) || ltb i (totalOf t)) bits (λ i l. said _ _ (λ u. lt-ltb i (totalOf t) (k .within i l u))),
       false-has (unlisted (roster t)) (entries t) (k .calls .senders),
       false-has (overLimit (entries t)) (roster t) (over-none (roster t) (entries t) (roster-kept t (k .accepted) .apart) (k .calls .limits)),
       le-leb (S (roster t) (entries t)) (totalOf t) (k .calls .room),
       once-no-two sameShort (λ (e : Entry). e .ids) short-alike short-self (entries t) (k .calls .shorts),
       once-no-two sameLong (λ (e : Entry). e .ids) long-alike long-self (entries t) (k .calls .longs),
-      every-within (λ i. not (isUsed (t .occupied) i) || validIds (callAt t i)) (totalOf t) (λ i l. name-valid i l (isUsed (t .occupied) i) refl),
+      every-within (λ i. not (isUsed (t .occupied) i) || validIds (callAt t i)) slots (λ i l. said _ _ (k .names i l)),
       once-no-two sameConnection (λ (x : Held). x) lsp-alike lsp-self (held t) (k .once),
-      every-within (slotFreeClear t) (totalOf t) (k .slots),
+      every-within (slotFreeClear t) slots (k .slots),
       every-within (recordFreeClear t) 8 (k .records),
     )
-  where
-    name-valid : (i : ℕ) → i < totalOf t → (u : Bool) → isUsed (t .occupied) i ≡ u → (not u || validIds (callAt t i)) ≡ true
-    name-valid i l true e = k .names i l e
-    name-valid i l false e = refl
 
 -- at most eight customers are listed
 pub listed-most : (t : Table) → rosterHolds t ≡ true → t .listed ≤ 8
@@ -158,7 +162,9 @@ unfolding rosterHolds
 listed-most t h = by (eqb (t .listed) 0) refl h
   where
     by : (b : Bool) → eqb (t .listed) 0 ≡ b
-        → cond b (eqb (t .address) 0 && eqb (t .epoch) 0) (leb (t .listed) 8 && ltb (t .epoch) 0x1000000 && acceptable (totalOf t) (roster t)) ≡ true → t .listed ≤ 8
+        → cond b (eqb (t .form) 0 && eqb (t .address) 0 && eqb (t .epoch) 0) ((eqb (t .form) 1 || eqb (t .form) 2) && leb (t .listed) 8 && ltb (t .epoch) 0x1000000 && acceptable (totalOf t) (roster t)) ≡ true → t .listed ≤ 8
     by true e h = omega (arith, eqb-true (t .listed) 0 e)
     by false e h =
-        leb-true (t .listed) 8 (both _ _ (both (leb (t .listed) 8 && ltb (t .epoch) 0x1000000) (acceptable (totalOf t) (roster t)) h .0) .0)
+        leb-true (t .listed) 8
+        (both (eqb (t .form) 1 || eqb (t .form) 2) (leb (t .listed) 8)
+        (both _ (ltb (t .epoch) 0x1000000) (both ((eqb (t .form) 1 || eqb (t .form) 2) && leb (t .listed) 8 && ltb (t .epoch) 0x1000000) (acceptable (totalOf t) (roster t)) h .0) .0) .1)

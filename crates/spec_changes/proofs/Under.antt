@@ -12,7 +12,7 @@ use Rattle.lists.specs.Below.{below}
 use Rattle.lists.proofs.Tests.{both}
 use Rattle.lists.proofs.Count.{count-append}
 use Rattle.table.specs.Table.{Place, Call, Table}
-use Rattle.table.specs.Total.{totalOf}
+use Rattle.table.specs.Total.{slots, totalOf}
 use Rattle.table.specs.Word.{isUsed}
 use Rattle.table.specs.Zeros.{noPlace}
 use Rattle.table.specs.Lists.{roster, Entry, callAt, entries, callFour, heldIn, heldAt, standaloneAt}
@@ -25,7 +25,7 @@ use Rattle.spec_changes.proofs.Places.{places-valid, row-within}
 use Rattle.spec_changes.proofs.Connections.{SameCalls, OnePlace}
 
 -- place j of the call in slot i, which is used, has q in the table u
-module _ (t : Table) (s : Shape t) (i j : ℕ) (q : Place) (inside : i < totalOf t) (used : isUsed (t .occupied) i ≡ true) where
+module _ (t : Table) (s : Shape t) (i j : ℕ) (q : Place) (inside : i < slots) (used : isUsed (t .occupied) i ≡ true) where
   abbrev c : Call
   c = callAt t i
 
@@ -53,9 +53,10 @@ module _ (t : Table) (s : Shape t) (i j : ℕ) (q : Place) (inside : i < totalOf
   under-same new = record {
     roster = refl;
     entries = under-entries;
-    shape = slot-shape t (t .occupied) i d inside (s .calls) s (s .word) (length-set (c .places) j q ∙ s .places i inside);
+    shape = slot-shape t (t .occupied) i d inside (s .calls) s (s .words) (length-set (c .places) j q ∙ s .places i inside);
     kept = λ k once. record {
       accepted = k .accepted;
+      within = k .within;
       calls = calls-fewer (totalOf t) (roster t) (entries u) (entries t) (λ p. omega (arith, under-entries p)) (k .calls);
       once = once;
       names = slot-names t (t .occupied) i d inside (s .calls) (λ m n. refl) (k .names) (λ h. under-names (k .names i inside used));
@@ -69,8 +70,8 @@ module _ (t : Table) (s : Shape t) (i j : ℕ) (q : Place) (inside : i < totalOf
     same = under-same new;
     within = λ p. omega (
       arith,
-      count-append p (below (heldAt t) (totalOf t)) (below (standaloneAt t) 8),
-      row-within p (isUsed (t .occupied)) (λ i. heldIn (callFour (callAt t i))) (totalOf t) i inside used,
+      count-append p (below (heldAt t) slots) (below (standaloneAt t) 8),
+      row-within p (isUsed (t .occupied)) (λ i. heldIn (callFour (callAt t i))) slots i inside used,
     );
     counts = λ p. rw used at (slot-held t (t .occupied) i d inside (s .calls) (λ m n. refl) p);
     other = λ m n. rw (getD-set-other (c .places) j m q noPlace n);

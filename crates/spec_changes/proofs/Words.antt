@@ -7,23 +7,24 @@ use mathlib.Core.List.{List}
 use lib.ListN.{length, getD}
 use Rattle.lists.specs.Below.{below}
 use Rattle.lists.proofs.Below.{length-each, getD-each}
-use Rattle.table.specs.Total.{total}
+use Rattle.table.specs.Total.{slots}
 use Rattle.table.specs.Zeros.{pastCall, pastCustomer}
 use Rattle.table.specs.Lists.{callAt}
 use Rattle.table.specs.Words.{customerStart, callStart, placeAtWord, nameAtWord, callAtWord, customerAtWord, tableOf}
+use Rattle.table.proofs.Cells.{used-at, used-fit}
 use Rattle.spec_changes.specs.Shape.{Shape}
 
 module _ (w : List ℕ) where
-  pub words-calls : total ≤ length (tableOf w .calls)
-  words-calls = omega (arith, length-each (λ i. callAtWord w (callStart i)) total)
+  pub words-calls : slots ≤ length (tableOf w .calls)
+  words-calls = omega (arith, length-each (λ i. callAtWord w (callStart i)) slots)
 
-  -- the occupancy word is two words
-  pub words-shape : getD w 4 0 < 0x100000000 → getD w 5 0 < 0x100000000 → Shape (tableOf w)
-  words-shape low high = record {
+  -- each of the occupancy's four words is two words of the array
+  pub words-shape : ((i : ℕ) → getD w i 0 < 0x100000000) → Shape (tableOf w)
+  words-shape fits = record {
     calls = words-calls;
     customers = length-each (λ k. customerAtWord w (customerStart k)) 8;
-    word = omega arith;
-    places = λ i h. rw (getD-each (λ i. callAtWord w (callStart i)) total i pastCall h) (length-each (λ j. placeAtWord w (callStart i + 16 + 4 * j)) 4);
+    words = used-fit w (λ k h. rw (used-at w k h) (omega (arith, fits (5 + 2 * k), fits (6 + 2 * k))));
+    places = λ i h. rw (getD-each (λ i. callAtWord w (callStart i)) slots i pastCall h) (length-each (λ j. placeAtWord w (callStart i + 16 + 4 * j)) 4);
     endpoints = λ k h. rw (getD-each (λ k. customerAtWord w (customerStart k)) 8 k pastCustomer h) (length-each (λ j. getD w (customerStart k + 3 + j) 0) 4);
     standalonePlaces = λ k h. rw (getD-each (λ k. customerAtWord w (customerStart k)) 8 k pastCustomer h) (length-each (λ j. placeAtWord w (customerStart k + 7 + 4 * j)) 4);
   }
@@ -32,5 +33,5 @@ module _ (w : List ℕ) where
   unfolding below
   eight-words b = refl
 
-  pub words-names : (i : ℕ) → i < total → length (callAt (tableOf w) i .name) ≡ 32
-  words-names i h = rw (getD-each (λ i. callAtWord w (callStart i)) total i pastCall h) (eight-words (callStart i + 8))
+  pub words-names : (i : ℕ) → i < slots → length (callAt (tableOf w) i .name) ≡ 32
+  words-names i h = rw (getD-each (λ i. callAtWord w (callStart i)) slots i pastCall h) (eight-words (callStart i + 8))

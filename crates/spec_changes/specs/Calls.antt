@@ -5,7 +5,7 @@ use lib.ListN.{length, replicate}
 use Rattle.numbers.specs.Buffer.{atFront}
 use Rattle.lists.specs.Below.{placeOf}
 use Rattle.table.specs.Table.{Call, Table}
-use Rattle.table.specs.Total.{totalOf}
+use Rattle.table.specs.Total.{slots}
 use Rattle.table.specs.Identifier.{identifierAfter}
 use Rattle.table.specs.Word.{lowestFree, withUsed, withFree}
 use Rattle.table.specs.Zeros.{noPlace, noCall}
@@ -38,7 +38,7 @@ isCall c e = sameShort c (e .ids) && sameLong c (e .ids)
 
 -- the slot of the first call that passes a test, 0 where none does
 abbrev pub slotOf : Table → (Entry → Bool) → ℕ
-slotOf t p = placeOf (openAt t) p (totalOf t)
+slotOf t p = placeOf (openAt t) p slots
 
 -- the call's slot is free again, and what is free holds zeros. A call is closed only where it is open (33).
 unfoldable pub closed : Table → Ids → Table

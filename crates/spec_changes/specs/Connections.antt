@@ -6,7 +6,7 @@ use lib.Dec.{eqb}
 use Rattle.lists.specs.Count.{has}
 use Rattle.lists.specs.Below.{below, firstBelow, placeOf}
 use Rattle.table.specs.Table.{Place, Table}
-use Rattle.table.specs.Total.{totalOf}
+use Rattle.table.specs.Total.{slots}
 use Rattle.table.specs.Zeros.{noPlace}
 use Rattle.table.specs.Lists.{customerAt, listedAt, Ids, Entry, callAt, Lsp, Held, Four, callFour, customerFour, placeAt, isTaken, heldPlace, heldAt, standaloneAt}
 use Rattle.table.specs.Share.{isAt}
@@ -82,8 +82,8 @@ added t x = cond (eqb (x .call) 0) (addedStandalone t (customerOf t (x .lsp .sen
 -- a connection stands under a call or with its customer; its Call ID takes no part in finding it
 unfoldable pub removed : Table → Lsp → Table
 removed t x =
-    cond (has (isLsp x) (below (heldAt t) (totalOf t)))
-    (removedUnder t (placeOf (heldAt t) (isLsp x) (totalOf t)) x)
+    cond (has (isLsp x) (below (heldAt t) slots))
+    (removedUnder t (placeOf (heldAt t) (isLsp x) slots) x)
     (removedStandalone t (placeOf (standaloneAt t) (isLsp x) 8) x)
 
 -- 35: a connection with a Call ID, 0 excepted, that no open call of its pair has

@@ -15,11 +15,12 @@ use Rattle.lists.specs.Below.{below}
 use Rattle.lists.proofs.Below.{count-below, count-at, every-within}
 use Rattle.lists.proofs.Count.{one-bit}
 use Rattle.table.specs.Table.{Table}
-use Rattle.table.specs.Total.{totalOf}
+use Rattle.table.specs.Total.{slots, totalOf}
 use Rattle.table.specs.Word.{isUsed, withUsed}
 use Rattle.table.specs.Lists.{roster, idsOf, callAt, Entry, entries, Held, held}
 use Rattle.table.specs.Rules.{validIds, sameLong, callFreeClear}
 use Rattle.table.proofs.Slots.{used-other}
+use Rattle.table.proofs.Within.{total-most}
 use Rattle.spec_changes.specs.Shape.{Shape}
 use Rattle.spec_changes.proofs.Alike.{long-self}
 use Rattle.spec_changes.proofs.Kept.{CallsKept, Kept, calls-fewer}
@@ -75,18 +76,23 @@ pub record Filled (t fresh : Table) (s : List ℕ) (n : ℕ) : Type 0 where
   pub shape : Shape (withCalls fresh s n)
   pub kept : Kept (withCalls fresh s n)
   pub same : roster (withCalls fresh s n) ≡ roster fresh
+  pub form : withCalls fresh s n .form ≡ fresh .form
   pub calls : (p : Entry → Bool) → countIf p (entries (withCalls fresh s n)) ≡ countIf p (below (λ i. entryOf (callRecord s i) ∷ []) n)
-  pub fields : (j : ℕ) → j < totalOf t → isUsed (withCalls fresh s n .occupied) j ≡ true → callAt (withCalls fresh s n) j ≡ withoutPlaces (callAt t j)
+  pub fields : (j : ℕ) → j < slots → isUsed (withCalls fresh s n .occupied) j ≡ true → callAt (withCalls fresh s n) j ≡ withoutPlaces (callAt t j)
   pub connections : (p : Held → Bool) → countIf p (held (withCalls fresh s n)) ≡ countIf p (held fresh)
 
 module _ (t fresh : Table) (s : List ℕ) (k : Kept t) (c : Copied t s)
-    (shape : Shape fresh) (kept : Kept fresh) (same : roster fresh ≡ roster t) (idle : (p : Entry → Bool) → countIf p (entries fresh) ≡ 0) where
+    (shape : Shape fresh) (kept : Kept fresh) (same : roster fresh ≡ roster t) (form : fresh .form ≡ t .form) (idle : (p : Entry → Bool) → countIf p (entries fresh) ≡ 0) where
   abbrev f : ℕ → List Entry
   f i = entryOf (callRecord s i) ∷ []
 
+  -- a record's slot is one of the table's
+  inside : (i : ℕ) → i < callsIn s → callRecord s i .slot < slots
+  inside i h = omega (arith, c .slots i h, total-most (t .form))
+
   -- fewer calls than the other table's keep the rules
   part : (l : List Entry) → ((p : Entry → Bool) → countIf p l ≤ countIf p (entries t)) → CallsKept (totalOf fresh) (roster fresh) l
-  part l h = rw same (calls-fewer (totalOf t) (roster t) l (entries t) h (k .calls))
+  part l h = rw (same, form) (calls-fewer (totalOf t) (roster t) l (entries t) h (k .calls))
 
   one : (i : ℕ) → i < callsIn s → (p : Entry → Bool) → bit (p (entryOf (callRecord s i))) ≤ countIf p (entries t)
   one i h p = omega (arith, count-at f p i (callsIn s) h, c .all p)
@@ -95,7 +101,7 @@ module _ (t fresh : Table) (s : List ℕ) (k : Kept t) (c : Copied t s)
   more i h p = omega (arith, count-below f p i, count-prefix f p (suc i) (callsIn s) h, c .all p)
 
   -- a slot that no entry has is free
-  free : (u : Table) (j : ℕ) → j < totalOf u → countIf (λ e. eqb j (e .slot)) (entries u) ≡ 0 → isUsed (u .occupied) j ≡ false
+  free : (u : Table) (j : ℕ) → j < slots → countIf (λ e. eqb j (e .slot)) (entries u) ≡ 0 → isUsed (u .occupied) j ≡ false
   free u j h e = by (isUsed (u .occupied) j) (sym (slot-used u j h) ∙ e)
     where
       by : (b : Bool) → bit b ≡ 0 → b ≡ false
@@ -106,11 +112,12 @@ module _ (t fresh : Table) (s : List ℕ) (k : Kept t) (c : Copied t s)
   unfolding soundAlone
   alone i h =
       let r = callRecord s i in
-      let was = free fresh (r .slot) (c .slots i h) (idle _) in
+      let was = free fresh (r .slot) (inside i h) (idle _) in
+      let below-total : r .slot < totalOf fresh = rw form (c .slots i h) in
       rw (
-        lt-ltb _ _ (c .slots i h),
-        kept-rules (placed fresh r) (placed-kept fresh r (shape .calls) (c .slots i h) was (record-bare s i) kept
-            (part (entries (placed fresh r)) (λ p. omega (arith, placed-entries fresh r (shape .calls) (c .slots i h) was (record-bare s i) p, idle p, one i h p)))
+        lt-ltb _ _ below-total,
+        kept-rules (placed fresh r) (placed-kept fresh r (shape .calls) (shape .words .four) (inside i h) was (record-bare s i) kept below-total
+            (part (entries (placed fresh r)) (λ p. omega (arith, placed-entries fresh r (shape .calls) (shape .words .four) (inside i h) was (record-bare s i) p, idle p, one i h p)))
             (c .names i h) (c .clear i h)),
       )
 
@@ -159,43 +166,44 @@ module _ (t fresh : Table) (s : List ℕ) (k : Kept t) (c : Copied t s)
     was =
         let p : Entry → Bool = λ e. eqb (r .slot) (e .slot) in
         let own : bit (eqb (r .slot) (r .slot)) ≡ 1 = rw (eq-eqb (r .slot) (r .slot) refl) in
-        free u (r .slot) (c .slots i h) (omega (arith, b .calls p, own, more i h p, slot-used t (r .slot) (c .slots i h), one-bit (isUsed (t .occupied) (r .slot))))
+        free u (r .slot) (inside i h) (omega (arith, b .calls p, own, more i h p, slot-used t (r .slot) (inside i h), one-bit (isUsed (t .occupied) (r .slot))))
 
     next : Kept (placed u r)
-    next = placed-kept u r (b .shape .calls) (c .slots i h) was (record-bare s i) (b .kept)
-        (rw (b .same) (part (entries (placed u r)) (λ p. omega (arith, placed-entries u r (b .shape .calls) (c .slots i h) was (record-bare s i) p, b .calls p, more i h p))))
+    next = placed-kept u r (b .shape .calls) (b .shape .words .four) (inside i h) was (record-bare s i) (b .kept) (rw (b .form, form) (c .slots i h))
+        (rw (b .same, b .form) (part (entries (placed u r)) (λ p. omega (arith, placed-entries u r (b .shape .calls) (b .shape .words .four) (inside i h) was (record-bare s i) p, b .calls p, more i h p))))
         (c .names i h) (c .clear i h)
 
     goes-on : withCalls fresh s (suc i) ≡ placed u r
     unfolding withCalls callFits
     goes-on = rw (picked i h, was, kept-rules (placed u r) next)
 
-    next-fields : (j : ℕ) → j < totalOf t → isUsed (placed u r .occupied) j ≡ true → callAt (placed u r) j ≡ withoutPlaces (callAt t j)
+    next-fields : (j : ℕ) → j < slots → isUsed (placed u r .occupied) j ≡ true → callAt (placed u r) j ≡ withoutPlaces (callAt t j)
     next-fields j l q = by (eqb j (r .slot)) refl
       where
         by : (a : Bool) → eqb j (r .slot) ≡ a → callAt (placed u r) j ≡ withoutPlaces (callAt t j)
-        by true e = rw (eqb-true j (r .slot) e) (call-here u (withUsed (u .occupied) (r .slot)) (r .slot) (r .call) (c .slots i h) (b .shape .calls) ∙ c .call i h)
+        by true e = rw (eqb-true j (r .slot) e) (call-here u (withUsed (u .occupied) (r .slot)) (r .slot) (r .call) (inside i h) (b .shape .calls) ∙ c .call i h)
         by false e =
             let n = eqb-false j (r .slot) e in
-            call-other u (withUsed (u .occupied) (r .slot)) (r .slot) (r .call) (c .slots i h) (b .shape .calls) j n
-            ∙ b .fields j l (sym (used-other (u .occupied) (r .slot) j n) ∙ q)
+            call-other u (withUsed (u .occupied) (r .slot)) (r .slot) (r .call) (inside i h) (b .shape .calls) j n
+            ∙ b .fields j l (sym (used-other (u .occupied) (r .slot) (omega (arith, inside i h, b .shape .words .four)) j n) ∙ q)
 
     step : Filled t fresh s (suc i)
     unfolding below
     step = record {
-      shape = rw goes-on (used-shape u (r .slot) (r .call) (b .shape) (c .slots i h) refl);
+      shape = rw goes-on (used-shape u (r .slot) (r .call) (b .shape) (inside i h) refl);
       kept = rw goes-on next;
       same = rw goes-on (b .same);
-      calls = λ p. rw goes-on (omega (arith, placed-entries u r (b .shape .calls) (c .slots i h) was (record-bare s i) p, b .calls p, count-below f p i));
+      form = rw goes-on (b .form);
+      calls = λ p. rw goes-on (omega (arith, placed-entries u r (b .shape .calls) (b .shape .words .four) (inside i h) was (record-bare s i) p, b .calls p, count-below f p i));
       fields = rw goes-on next-fields;
-      connections = λ p. rw goes-on (placed-held u r (b .shape .calls) (c .slots i h) was (record-bare s i) p ∙ b .connections p);
+      connections = λ p. rw goes-on (placed-held u r (b .shape .calls) (b .shape .words .four) (inside i h) was (record-bare s i) p ∙ b .connections p);
     }
 
-  unused : (j : ℕ) → j < totalOf t → isUsed (fresh .occupied) j ≡ true → callAt fresh j ≡ withoutPlaces (callAt t j)
+  unused : (j : ℕ) → j < slots → isUsed (fresh .occupied) j ≡ true → callAt fresh j ≡ withoutPlaces (callAt t j)
   unused j l u = let n : false ≡ true = sym (free fresh j l (idle _)) ∙ u in let z : _≡_ {A = ℕ} 0 1 = cc in let e : ⊥ = omega arith in absurd e
 
   -- all of the first n are kept
   pub filled : (n : ℕ) → n ≤ callsIn s → Filled t fresh s n
   unfolding withCalls below
-  filled zero h = record { shape = shape; kept = kept; same = refl; calls = λ p. idle p; fields = unused; connections = λ p. refl }
+  filled zero h = record { shape = shape; kept = kept; same = refl; form = refl; calls = λ p. idle p; fields = unused; connections = λ p. refl }
   filled (suc i) h = step i h (filled i (omega arith))

@@ -14,7 +14,7 @@ use Rattle.lists.proofs.Count.{has-true}
 use Rattle.lists.proofs.Below.{getD-each}
 use Rattle.lists.proofs.Search.{place-found, first-least}
 use Rattle.table.specs.Table.{Place, Call, Customer, Table}
-use Rattle.table.specs.Total.{total, totalOf}
+use Rattle.table.specs.Total.{slots}
 use Rattle.table.specs.Word.{withUsed}
 use Rattle.table.specs.Zeros.{noPlace, noCall, noCustomer, pastCall, pastCustomer}
 use Rattle.table.specs.Lists.{customerAt, listedAt, roster, callAt, Held, callFour, customerFour, isTaken}
@@ -69,13 +69,13 @@ first-of-four p = by (p 0) (p 1) (p 2) (p 3)
     by false false false false = omega arith
 
 -- another call in one slot
-module _ (t : Table) (word i : ℕ) (c : Call) (inside : i < totalOf t) (s : Shape t) where
-  closed-slot : InOrder (row (c .places)) → ClosedUp t → ClosedUp (withSlot t word i c)
+module _ (t : Table) (words : List ℕ) (i : ℕ) (c : Call) (inside : i < slots) (s : Shape t) where
+  closed-slot : InOrder (row (c .places)) → ClosedUp t → ClosedUp (withSlot t words i c)
   closed-slot new o = record { under = λ m l. by m l (eqb m i) refl; standalone = o .standalone }
     where
-      by : (m : ℕ) → m < totalOf t → (b : Bool) → eqb m i ≡ b → InOrder (row (callAt (withSlot t word i c) m .places))
-      by m l true e = rw (eqb-true m i e, call-here t word i c inside (s .calls)) new
-      by m l false e = rw (call-other t word i c inside (s .calls) m (eqb-false m i e)) (o .under m l)
+      by : (m : ℕ) → m < slots → (b : Bool) → eqb m i ≡ b → InOrder (row (callAt (withSlot t words i c) m .places))
+      by m l true e = rw (eqb-true m i e, call-here t words i c inside (s .calls)) new
+      by m l false e = rw (call-other t words i c inside (s .calls) m (eqb-false m i e)) (o .under m l)
 
 -- another record of one customer
 module _ (t : Table) (k : ℕ) (c : Customer) (inside : k < 8) (s : Shape t) where
@@ -96,7 +96,7 @@ alike d (suc (suc (suc (suc j)))) = refl
 not-taken : false ≡ true → ⊥
 not-taken e = let z : _≡_ {A = ℕ} 0 1 = cc in omega arith
 
-pub closed-placed : (t : Table) (r : Slotted) → Shape t → r .slot < totalOf t → r .call .places ≡ replicate 4 noPlace → ClosedUp t → ClosedUp (placed t r)
+pub closed-placed : (t : Table) (r : Slotted) → Shape t → r .slot < slots → r .call .places ≡ replicate 4 noPlace → ClosedUp t → ClosedUp (placed t r)
 closed-placed t r s inside p o =
     closed-slot t (withUsed (t .occupied) (r .slot)) (r .slot) (r .call) inside s (λ j h e. absurd (not-taken (rw (p, alike noPlace (suc j)) at e))) o
 
@@ -128,6 +128,6 @@ fresh-standalone s k false j h e = absurd (not-taken (rw (alike noPlace (suc j))
 pub closed-fresh : (s : List ℕ) → ClosedUp (freshTable s)
 unfolding freshTable noCall customersFrom
 closed-fresh s = record {
-  under = λ i l j h e. absurd (not-taken (rw (getD-replicate total i noCall pastCall l, alike noPlace (suc j)) at e));
+  under = λ i l j h e. absurd (not-taken (rw (getD-replicate slots i noCall pastCall l, alike noPlace (suc j)) at e));
   standalone = λ k l. rw (getD-each (λ k. cond (ltb k (customersIn s)) (customerIn s k) noCustomer) 8 k pastCustomer l) (fresh-standalone s k (ltb k (customersIn s)));
 }

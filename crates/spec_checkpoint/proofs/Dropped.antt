@@ -16,8 +16,8 @@ use Rattle.lists.proofs.Below.{count-none, count-below}
 use Rattle.table.specs.declared.answer.RosterAnswer.the-variants.{Accepted}
 use Rattle.table.specs.Table.{Table}
 use Rattle.table.specs.Word.{isUsed}
-use Rattle.table.specs.Lists.{Terms, entries, held}
-use Rattle.table.specs.Roster.{customersIn, recordsIn, rosterNumber, rosterAnswer, freshTable, tableFor, formIn}
+use Rattle.table.specs.Lists.{entries, held}
+use Rattle.table.specs.Roster.{rosterNumber, rosterAnswer, freshTable, tableFor, formIn}
 use Rattle.table.proofs.Fresh.{fresh-entries, fresh-held}
 use Rattle.spec_changes.specs.Connections.{added}
 use Rattle.spec_changes.proofs.Added.{added-entries, added-held}
@@ -39,27 +39,24 @@ dropped-more : (p : ℕ → Bool) (n : ℕ) → countBelow p (suc n) ≡ countBe
 dropped-more p n = omega (arith, count-below (λ i. i ∷ []) p n)
 
 module _ (r s : List ℕ) (b : Bytes r) (d : Bytes s) (e : rosterAnswer r ≡ Accepted) where
-  abbrev terms : List Terms
-  terms = recordsIn r (customersIn r)
-
   abbrev fresh : Table
   fresh = freshTable r
 
   -- ---- calls
 
-  calls : (n : ℕ) → Sound terms (withCalls fresh s n)
-  calls = calls-sound terms fresh s (fresh-sound r b e)
+  calls : (n : ℕ) → Sound r (withCalls fresh s n)
+  calls = calls-sound r fresh s (fresh-sound r b e)
 
   -- a record kept is one entry more, and no connection
-  call-more : (n : ℕ) (t : Table) → Sound terms t → (c : Bool) → callKept fresh t s n ≡ c
+  call-more : (n : ℕ) (t : Table) → Sound r t → (c : Bool) → callKept fresh t s n ≡ c
       → (size (entries (cond c (placed t (callRecord s n)) t)) + bit (not c) ≡ suc (size (entries t))) × (size (held (cond c (placed t (callRecord s n)) t)) ≡ size (held t))
   unfolding callFits
   call-more n t i false q = (omega arith, refl)
   call-more n t i true q =
       let k = both (keptByLongId fresh s n) (callFits t (callRecord s n)) q in
       let free = not-true (isUsed (t .occupied) (callRecord s n .slot)) (both _ _ (k .1) .0) in
-      let in-total = kept-inside fresh s n (k .0) in
-      (omega (arith, placed-entries t (callRecord s n) (i .shape .calls) in-total free (record-bare s n) (λ x. true)), placed-held t (callRecord s n) (i .shape .calls) in-total free (record-bare s n) (λ x. true))
+      let inside = kept-inside fresh s n (k .0) in
+      (omega (arith, placed-entries t (callRecord s n) (i .shape .calls) (i .shape .words .four) inside free (record-bare s n) (λ x. true)), placed-held t (callRecord s n) (i .shape .calls) (i .shape .words .four) inside free (record-bare s n) (λ x. true))
 
   calls-told : (n : ℕ) → (size (entries (withCalls fresh s n)) + countBelow (callDropped r s) n ≡ n) × (size (held (withCalls fresh s n)) ≡ 0)
   unfolding withCalls
@@ -75,11 +72,11 @@ module _ (r s : List ℕ) (b : Bytes r) (d : Bytes s) (e : rosterAnswer r ≡ Ac
   abbrev over : Table
   over = withCalls fresh s (callsIn s)
 
-  connections : (n : ℕ) → n ≤ connectionsIn s → Sound terms (withConnections over s n)
-  connections = connections-sound terms over s (bytes-fit s d) (calls (callsIn s))
+  connections : (n : ℕ) → n ≤ connectionsIn s → Sound r (withConnections over s n)
+  connections = connections-sound r over s (bytes-fit s d) (calls (callsIn s))
 
   -- a record kept is one connection more, and no entry
-  connection-more : (n : ℕ) → suc n ≤ connectionsIn s → (t : Table) → Sound terms t → (c : Bool) → connectionKept t s n ≡ c
+  connection-more : (n : ℕ) → suc n ≤ connectionsIn s → (t : Table) → Sound r t → (c : Bool) → connectionKept t s n ≡ c
       → (size (held (cond c (added t (connectionRecord s n)) t)) + bit (not c) ≡ suc (size (held t)))
       × (size (entries (cond c (added t (connectionRecord s n)) t)) ≡ size (entries t))
   connection-more n h t i false q = (omega arith, refl)

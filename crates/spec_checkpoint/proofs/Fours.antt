@@ -14,7 +14,7 @@ use Rattle.lists.proofs.Count.{count-ext, count-append, true-has, one-bit, no-b
 use Rattle.lists.proofs.Tests.{both}
 use Rattle.lists.proofs.Below.{count-element, count-list-if, count-below, count-none, count-at, every-at}
 use Rattle.table.specs.Table.{Call, Table}
-use Rattle.table.specs.Total.{totalOf}
+use Rattle.table.specs.Total.{slots}
 use Rattle.table.specs.Word.{isUsed}
 use Rattle.table.specs.Lists.{customerAt, termsOf, listedAt, roster, Ids, Entry, idsOf, callAt, openAt, entries, Held, Four, callFour, customerFour, placeAt, isTaken, connectionAt, heldPlace, heldIn, heldAt, standaloneAt, held}
 use Rattle.table.specs.Share.{isAt, isListed}
@@ -73,12 +73,12 @@ module _ (t : Table) (k : Kept t) (x : Held) where
       by false false c = refl
 
   -- under calls: those of one call where the Call ID is not 0, none where it is
-  under-some : (x .call ≡ 0 → ⊥) → countIf (sameFour x) (below (heldAt t) (totalOf t)) ≤ 4
+  under-some : (x .call ≡ 0 → ⊥) → countIf (sameFour x) (below (heldAt t) slots) ≤ 4
   under-some n =
       omega (
         arith,
         one-call,
-        rows-bound (sameFour x) (isCallOf x) (isUsed (t .occupied)) (λ i. heldIn (callFour (callAt t i))) (λ i. record { slot = i; ids = idsOf (callAt t i) }) (totalOf t)
+        rows-bound (sameFour x) (isCallOf x) (isUsed (t .occupied)) (λ i. heldIn (callFour (callAt t i))) (λ i. record { slot = i; ids = idsOf (callAt t i) }) slots
             (λ i l u. at-most (sameFour x) (callFour (callAt t i)) (isCallOf x (record { slot = i; ids = idsOf (callAt t i) })) (elsewhere (callAt t i))),
       )
     where
@@ -91,7 +91,7 @@ module _ (t : Table) (k : Kept t) (x : Held) where
       elsewhere c e j = rw (ne-eqb (x .call) 0 n) (not-own (eqb (x .call) (c .id)) (eqb (x .lsp .sender) (c .sender)) (eqb (x .lsp .endpoint) (c .endpoint)) e)
 
   -- a call's ID is not 0
-  under-none : x .call ≡ 0 → countIf (sameFour x) (below (heldAt t) (totalOf t)) ≡ 0
+  under-none : x .call ≡ 0 → countIf (sameFour x) (below (heldAt t) slots) ≡ 0
   under-none e = none-under (sameFour x) t (λ i l u j _ _. rw (e, ne-eqb 0 (callAt t i .id) (omega (arith, ids-named (callAt t i) (k .names i l u) .some))))
 
   -- with Call ID 0: those of one customer where it is 0, none where it is not
@@ -111,11 +111,11 @@ module _ (t : Table) (k : Kept t) (x : Held) where
   fours-hold = by (eqb (x .call) 0) refl
     where
       by : (b : Bool) → eqb (x .call) 0 ≡ b → countIf (sameFour x) (held t) ≤ 4
-      by true e = omega (arith, count-append (sameFour x) (below (heldAt t) (totalOf t)) (below (standaloneAt t) 8), under-none (eqb-true _ _ e), standalone-some)
+      by true e = omega (arith, count-append (sameFour x) (below (heldAt t) slots) (below (standaloneAt t) 8), under-none (eqb-true _ _ e), standalone-some)
       by false e =
           omega (
             arith,
-            count-append (sameFour x) (below (heldAt t) (totalOf t)) (below (standaloneAt t) 8),
+            count-append (sameFour x) (below (heldAt t) slots) (below (standaloneAt t) 8),
             under-some (eqb-false _ _ e),
             standalone-none (eqb-false _ _ e),
           )
@@ -128,11 +128,11 @@ senderUnlisted t x = not (isListed (roster t) (x .lsp .sender))
 
 module _ (t : Table) (k : Kept t) where
   -- under a call it is the call's
-  call-sender : (i : ℕ) → i < totalOf t → isUsed (t .occupied) i ≡ true → not (isListed (roster t) (callAt t i .sender)) ≡ false
+  call-sender : (i : ℕ) → i < slots → isUsed (t .occupied) i ≡ true → not (isListed (roster t) (callAt t i .sender)) ≡ false
   call-sender i l u =
       let e : Entry = record { slot = i; ids = idsOf (callAt t i) } in
       let here : countIf (unlisted (roster t)) (openAt t i) ≡ bit (unlisted (roster t) e) = count-element (unlisted (roster t)) (isUsed (t .occupied) i) e ∙ rw u in
-      no-bit _ (omega (arith, here, count-at (openAt t) (unlisted (roster t)) i (totalOf t) l, k .calls .senders))
+      no-bit _ (omega (arith, here, count-at (openAt t) (unlisted (roster t)) i slots l, k .calls .senders))
 
   -- with Call ID 0 it is the customer
   customer-sender : (i : ℕ) → i < 8 → ltb i (t .listed) ≡ true → not (isListed (roster t) (customerAt t i .address)) ≡ false
@@ -156,7 +156,7 @@ unfolding placeValid
 taken-fits f j v l u = let h : placeValid (placeAt f j) ≡ true = every-at _ 4 v j l in rw (rw u at h)
 
 module _ (t : Table) (k : Kept t) where
-  pub under-valid : (i : ℕ) → i < totalOf t → isUsed (t .occupied) i ≡ true → fourValid (callFour (callAt t i)) ≡ true
+  pub under-valid : (i : ℕ) → i < slots → isUsed (t .occupied) i ≡ true → fourValid (callFour (callAt t i)) ≡ true
   unfolding callFreeClear
   under-valid i l u = let h : callFreeClear (callAt t i) ≡ true = rw u at (k .slots i l) in both (unusedClear (callAt t i) && _) _ h .1
 

@@ -19,7 +19,7 @@ use Rattle.lists.proofs.Tests.{both}
 use Rattle.lists.proofs.Below.{count-element, has-element, count-not-list-if, without-below, below-only, below-put}
 use Rattle.lists.proofs.Search.{place-found}
 use Rattle.table.specs.Table.{Call, Customer, Table}
-use Rattle.table.specs.Total.{totalOf}
+use Rattle.table.specs.Total.{slots}
 use Rattle.table.specs.Word.{isUsed}
 use Rattle.table.specs.Zeros.{pastCall, pastCustomer}
 use Rattle.table.specs.Lists.{customerAt, termsOf, listedAt, roster, callAt, idsOf, openAt, Held, Four, callFour, customerFour, placeAt, isTaken, connectionAt, heldPlace, heldIn, heldAt, standaloneAt, held}
@@ -78,9 +78,9 @@ four-put f g x o k =
 
 module _ (t : Table) (k : Kept t) where
   -- a connection is under one call alone
-  pub one-under : (x : Held) (i j : ℕ) → i < totalOf t → j < totalOf t → isUsed (t .occupied) i ≡ true → isUsed (t .occupied) j ≡ true
+  pub one-under : (x : Held) (i j : ℕ) → i < slots → j < slots → isUsed (t .occupied) i ≡ true → isUsed (t .occupied) j ≡ true
       → isUnder (idsOf (callAt t i)) x ≡ true → isUnder (idsOf (callAt t j)) x ≡ true → i ≡ j
-  one-under x i j h l u v a b = one-place (openAt t) (isCallOf x) i j (totalOf t) h l (here i u a) (here j v b) (one-call t k x)
+  one-under x i j h l u v a b = one-place (openAt t) (isCallOf x) i j slots h l (here i u a) (here j v b) (one-call t k x)
     where
       here : (i : ℕ) → isUsed (t .occupied) i ≡ true → isUnder (idsOf (callAt t i)) x ≡ true → 0 < countIf (isCallOf x) (openAt t i)
       here i u a =
@@ -98,27 +98,27 @@ module _ (t : Table) (k : Kept t) where
           omega arith
 
   -- Call ID 0 is no call's
-  not-under : (i : ℕ) → i < totalOf t → isUsed (t .occupied) i ≡ true → (x : Held) → x .call ≡ 0 → isUnder (idsOf (callAt t i)) x ≡ false
+  not-under : (i : ℕ) → i < slots → isUsed (t .occupied) i ≡ true → (x : Held) → x .call ≡ 0 → isUnder (idsOf (callAt t i)) x ≡ false
   not-under i l u x e = rw (e, ne-eqb 0 (callAt t i .id) (omega (arith, ids-named (callAt t i) (k .names i l u) .some)))
 
   -- ---- what a table's fours have of all its connections
 
-  pub under-all : (i : ℕ) → i < totalOf t → isUsed (t .occupied) i ≡ true → underOf (callAt t i) (held t) ≡ heldIn (callFour (callAt t i))
+  pub under-all : (i : ℕ) → i < slots → isUsed (t .occupied) i ≡ true → underOf (callAt t i) (held t) ≡ heldIn (callFour (callAt t i))
   unfolding listIf
   under-all i l u =
       let p : Held → Bool = isUnder (idsOf (callAt t i)) in
       let q : Held → Bool = λ x. not (p x) in
       let rest = without-others p (below (standaloneAt t) 8) (none-standalone p t (λ m h v j _ _. not-under i l u (connectionAt (customerFour (customerAt t m)) j) refl)) in
-      let rows = below-only (λ j. without q (heldAt t j)) i (totalOf t) l (λ j h n. without-others p (heldAt t j)
+      let rows = below-only (λ j. without q (heldAt t j)) i slots l (λ j h n. without-others p (heldAt t j)
       (count-not-list-if p (isUsed (t .occupied) j) (heldIn (callFour (callAt t j))) (λ v. none-in p (callFour (callAt t j)) (λ m _ _. elsewhere j h v n m)))) in
       let all = without-none q (heldIn (callFour (callAt t i))) (none-in q (callFour (callAt t i)) (λ m _ _. rw (own i (connectionAt (callFour (callAt t i)) m) refl refl refl))) in
-      without-append q (below (heldAt t) (totalOf t)) (below (standaloneAt t) 8)
-      ∙ rw (rest, without-below q (heldAt t) (totalOf t), rows, append-nil (without q (heldAt t i)), u) all
+      without-append q (below (heldAt t) slots) (below (standaloneAt t) 8)
+      ∙ rw (rest, without-below q (heldAt t) slots, rows, append-nil (without q (heldAt t i)), u) all
     where
       own : (i : ℕ) (x : Held) → x .call ≡ callAt t i .id → x .lsp .endpoint ≡ callAt t i .endpoint → x .lsp .sender ≡ callAt t i .sender → isUnder (idsOf (callAt t i)) x ≡ true
       own i x a b c = rw (a, b, c, self (callAt t i .id), self (callAt t i .endpoint), self (callAt t i .sender))
 
-      elsewhere : (j : ℕ) → j < totalOf t → isUsed (t .occupied) j ≡ true → (j ≡ i → ⊥) → (m : ℕ) → isUnder (idsOf (callAt t i)) (connectionAt (callFour (callAt t j)) m) ≡ false
+      elsewhere : (j : ℕ) → j < slots → isUsed (t .occupied) j ≡ true → (j ≡ i → ⊥) → (m : ℕ) → isUnder (idsOf (callAt t i)) (connectionAt (callFour (callAt t j)) m) ≡ false
       elsewhere j h v n m = by (isUnder (idsOf (callAt t i)) x) refl
         where
           x : Held
@@ -133,12 +133,12 @@ module _ (t : Table) (k : Kept t) where
   standalone-all i l u =
       let p : Held → Bool = isStandaloneOf (customerAt t i) in
       let q : Held → Bool = λ x. not (p x) in
-      let rest = without-others p (below (heldAt t) (totalOf t))
+      let rest = without-others p (below (heldAt t) slots)
       (none-under p t (λ m h v j _ _. rw (ne-eqb (callAt t m .id) 0 (omega (arith, ids-named (callAt t m) (k .names m h v) .some))))) in
       let rows = below-only (λ j. without q (standaloneAt t j)) i 8 l (λ j h n. without-others p (standaloneAt t j)
       (count-not-list-if p (ltb j (t .listed)) (heldIn (customerFour (customerAt t j))) (λ v. none-in p (customerFour (customerAt t j)) (λ m _ _. elsewhere j h v n)))) in
       let all = without-none q (heldIn (customerFour (customerAt t i))) (none-in q (customerFour (customerAt t i)) (λ m _ _. rw (self (customerAt t i .address)))) in
-      without-append q (below (heldAt t) (totalOf t)) (below (standaloneAt t) 8)
+      without-append q (below (heldAt t) slots) (below (standaloneAt t) 8)
       ∙ rw (rest, without-below q (standaloneAt t) 8, rows, u) all
     where
       elsewhere : (j : ℕ) → j < 8 → ltb j (t .listed) ≡ true → (j ≡ i → ⊥) → eqb (customerAt t j .address) (customerAt t i .address) ≡ false
@@ -180,22 +180,22 @@ module _ (t : Table) (x : Held) (s : Shape t) (k : Kept t) (m : MayAdd t x) (o :
       by false e true q = rw (eqb-true i (slotOf t (isCallOf x)) q) (under-here (eqb-false (x .call) 0 e))
       by false e false q = ap withoutPlaces (under-elsewhere (eqb-false (x .call) 0 e) i (eqb-false i (slotOf t (isCallOf x)) q))
 
-  pub word-stays : added t x .occupied ≡ t .occupied
+  pub words-stay : added t x .occupied ≡ t .occupied
   unfolding added addedUnder addedStandalone
-  word-stays = by (eqb (x .call) 0)
+  words-stay = by (eqb (x .call) 0)
     where
       by : (b : Bool) → cond b (addedStandalone t (customerOf t (x .lsp .sender)) (x .lsp)) (addedUnder t (slotOf t (isCallOf x)) (x .lsp)) .occupied ≡ t .occupied
       by true = refl
       by false = refl
 
-  pub under-grows : (i : ℕ) → i < totalOf t → isUsed (t .occupied) i ≡ true
+  pub under-grows : (i : ℕ) → i < slots → isUsed (t .occupied) i ≡ true
       → heldIn (callFour (callAt (added t x) i)) ≡ heldIn (callFour (callAt t i)) ++ underOf (callAt t i) (x ∷ [])
   under-grows i l u = by (eqb (x .call) 0) refl (eqb i at) refl
     where
       at : ℕ
       at = slotOf t (isCallOf x)
 
-      found : (x .call ≡ 0 → ⊥) → (at < totalOf t) × (isUsed (t .occupied) at ≡ true) × (isUnder (idsOf (callAt t at)) x ≡ true)
+      found : (x .call ≡ 0 → ⊥) → (at < slots) × (isUsed (t .occupied) at ≡ true) × (isUnder (idsOf (callAt t at)) x ≡ true)
       found n = found-slot t (isCallOf x) (m .call n)
 
       other : (x .call ≡ 0 → ⊥) → (i ≡ at → ⊥) → (b : Bool) → isUnder (idsOf (callAt t i)) x ≡ b → b ≡ false

@@ -2,7 +2,7 @@
 -- what salvage would drop, and demand 3 goes on from the table that is read.
 -- Assumes nothing.
 use Prim.Native.Nat.{ℕ}
-use mathlib.Core.Path.{_≡_, refl}
+use mathlib.Core.Path.{_≡_, refl, ap}
 use mathlib.Core.List.{List, [], _∷_}
 use mathlib.Core.Bool.{Bool, true, false, cond, not, _||_}
 use lib.Dec.{eqb}
@@ -11,9 +11,10 @@ use Rattle.numbers.specs.BigEndian.{Bytes}
 use Rattle.numbers.specs.Search.{isIn}
 use Rattle.table.specs.declared.answer.RosterAnswer.{RosterAnswer}
 use Rattle.table.specs.declared.answer.RosterAnswer.the-variants.{Accepted, Short, BadForm, Length, SpareBits, Share, Repeated, Guarantees}
-use Rattle.table.specs.Lists.{Terms, roster, entries}
+use Rattle.table.specs.Total.{totalFor, totalOf}
+use Rattle.table.specs.Lists.{roster, entries}
 use Rattle.table.specs.Rules.{rulesHold}
-use Rattle.table.specs.Roster.{customersIn, recordsIn, rosterNumber, rosterAnswer, freshTable, tableFor, formIn}
+use Rattle.table.specs.Roster.{totalIn, rosterNumber, rosterAnswer, freshTable, tableFor, formIn}
 use Rattle.table.proofs.Fresh.{fresh-holds, empty-holds, fresh-roster}
 use Rattle.spec_changes.proofs.Fresh.{fresh-shape}
 use Rattle.spec_promises.specs.Promises.{Agrees}
@@ -25,15 +26,13 @@ use Rattle.spec_checkpoint.proofs.Salvaged.{Sound, RecordsFit, bytes-fi
 
 -- ---- the table that is given
 
-abbrev terms : List ℕ → List Terms
-terms r = recordsIn r (customersIn r)
+pub fresh-sound : (r : List ℕ) → Bytes r → rosterAnswer r ≡ Accepted → Sound r (freshTable r)
+unfolding freshTable
+fresh-sound r b e = record { shape = fresh-shape r; rules = fresh-holds r b e; roster = fresh-roster r e; form = refl; closed = closed-fresh r }
 
-pub fresh-sound : (r : List ℕ) → Bytes r → rosterAnswer r ≡ Accepted → Sound (terms r) (freshTable r)
-fresh-sound r b e = record { shape = fresh-shape r; rules = fresh-holds r b e; roster = fresh-roster r e; closed = closed-fresh r }
-
-pub checkpoint-sound : (r s : List ℕ) → Bytes r → RecordsFit s → rosterAnswer r ≡ Accepted → Sound (terms r) (fromCheckpoint r s .table)
+pub checkpoint-sound : (r s : List ℕ) → Bytes r → RecordsFit s → rosterAnswer r ≡ Accepted → Sound r (fromCheckpoint r s .table)
 unfolding fromCheckpoint
-checkpoint-sound r s b v e = salvaged-sound (terms r) (freshTable r) s v (fresh-sound r b e)
+checkpoint-sound r s b v e = salvaged-sound r (freshTable r) s v (fresh-sound r b e)
 
 -- what an accepted roster's reading gives is one of two
 module _ (P : Restored → Type 0) (salvage : Bool) (r s : List ℕ) (e : rosterNumber (rosterAnswer r) ≡ 0) where
@@ -48,10 +47,10 @@ module _ (P : Restored → Type 0) (salvage : Bool) (r s : List ℕ) (e : roster
       by false false false = u 72
 
 -- of an accepted roster: the rules, the shape, the roster itself, and places closed up
-pub restored-sound : (salvage : Bool) (r s : List ℕ) → Bytes r → Bytes s → rosterNumber (rosterAnswer r) ≡ 0 → Sound (terms r) (restored salvage r s .table)
+pub restored-sound : (salvage : Bool) (r s : List ℕ) → Bytes r → Bytes s → rosterNumber (rosterAnswer r) ≡ 0 → Sound r (restored salvage r s .table)
 restored-sound salvage r s b d e =
     let a = accepted (rosterAnswer r) e in
-    read-as (λ f. Sound (terms r) (f .table)) salvage r s e (λ n. fresh-sound r b a) (checkpoint-sound r s b (bytes-fit s d) a)
+    read-as (λ f. Sound r (f .table)) salvage r s e (λ n. fresh-sound r b a) (checkpoint-sound r s b (bytes-fit s d) a)
 
 pub restored-holds : RestoredHolds
 unfolding restored tableFor
@@ -112,15 +111,19 @@ restored-agrees salvage r s b d e =
     let i = restored-sound salvage r s b d e in
     record { shape = i .shape; rules = i .rules; calls = λ p. refl }
 
+-- the total is that of the roster
+restored-total : (salvage : Bool) (r s : List ℕ) → Bytes r → Bytes s → rosterNumber (rosterAnswer r) ≡ 0 → totalOf (restored salvage r s .table) ≡ totalIn r
+restored-total salvage r s b d e = ap totalFor (restored-sound salvage r s b d e .form)
+
 pub demand3-restored : Demand3Restored
 demand3-restored salvage r s b d e xs =
     let t = restored salvage r s .table in
-    rw (← (restored-sound salvage r s b d e .roster)) (demand3-from t (entries t) (restored-agrees salvage r s b d e) xs)
+    rw (← (restored-sound salvage r s b d e .roster), ← (restored-total salvage r s b d e)) (demand3-from t (entries t) (restored-agrees salvage r s b d e) xs)
 
 pub agrees-restored : AgreesRestored
 agrees-restored salvage r s b d e xs =
     let t = restored salvage r s .table in
-    agrees-from t (entries t) (restored-agrees salvage r s b d e) xs
+    rw (← (restored-total salvage r s b d e)) (agrees-from t (entries t) (restored-agrees salvage r s b d e) xs)
 
 pub connections-restored : ConnectionsRestored
 connections-restored salvage r s b d e xs =

@@ -1,5 +1,5 @@
--- Round trip (02, A13): what was written under a roster is read under the same customer records, plainly or with salvage,
--- and nothing is dropped.
+-- Round trip (02, A13): what was written under a roster is read under the same customer records and the same form, plainly
+-- or with salvage, and nothing is dropped.
 -- Assumes nothing.
 use Prim.Native.Nat.{ℕ, zero, suc, _-_, _≤_, _<_}
 use native.Mathlib.Nat.{le-refl}
@@ -13,20 +13,22 @@ use borrow.Author.Tests.{eq-eqb, le-ltb}
 use Rattle.numbers.specs.BigEndian.{Bytes}
 use Rattle.lists.specs.Count.{bit, countIf}
 use Rattle.lists.specs.Below.{elementIf, below}
+use Rattle.lists.proofs.Tests.{split}
 use Rattle.lists.proofs.Count.{count-append}
 use Rattle.table.specs.Table.{Table}
 use Rattle.table.specs.declared.answer.RosterAnswer.the-variants.{Accepted}
-use Rattle.table.specs.Total.{totalOf}
-use Rattle.table.specs.Word.{isUsed}
+use Rattle.table.specs.Total.{slots}
+use Rattle.table.specs.Word.{bits, isUsed}
 use Rattle.table.specs.Lists.{customerAt, roster, Entry, callAt, entries, Held, callFour, customerFour, heldIn, heldAt, standaloneAt, held}
-use Rattle.table.specs.Roster.{customersIn, recordsIn, rosterAnswer, freshTable}
-use Rattle.table.proofs.Slots.{word-same}
+use Rattle.table.specs.Roster.{formIn, customersIn, recordsIn, rosterAnswer, freshTable}
+use Rattle.table.proofs.Slots.{words-same}
+use Rattle.table.proofs.Within.{total-most}
 use Rattle.table.proofs.Fresh.{fresh-holds, fresh-roster, fresh-entries, fresh-held}
 use Rattle.spec_changes.specs.Shape.{Shape}
 use Rattle.spec_changes.proofs.Kept.{Kept}
 use Rattle.spec_changes.proofs.Told.{rules-kept}
 use Rattle.spec_changes.proofs.Fresh.{fresh-shape}
-use Rattle.spec_changes.proofs.Opened.{slot-used}
+use Rattle.spec_changes.proofs.Opened.{slot-used, outside-free}
 use Rattle.spec_changes.proofs.Places.{row-within}
 use Rattle.spec_promises.proofs.Demand3.{accepted}
 use Rattle.spec_checkpoint.specs.Layout.{callsIn, connectionsIn, connectionRecord, checkpointSize, checkpointOf}
@@ -51,8 +53,8 @@ nothing : (l : List Held) → countIf (λ x. true) l ≡ 0 → l ≡ []
 nothing [] e = refl
 nothing (x ∷ l) e = let z : ⊥ = omega arith in absurd z
 
-module _ (t : Table) (shape : Shape t) (k : Kept t) (names : (i : ℕ) → i < totalOf t → length (callAt t i .name) ≡ 32)
-    (r : List ℕ) (bytes : Bytes r) (e : rosterAnswer r ≡ Accepted) (same : roster t ≡ recordsIn r (customersIn r)) where
+module _ (t : Table) (shape : Shape t) (k : Kept t) (names : (i : ℕ) → i < slots → length (callAt t i .name) ≡ 32)
+    (r : List ℕ) (bytes : Bytes r) (e : rosterAnswer r ≡ Accepted) (same : roster t ≡ recordsIn r (customersIn r)) (form : t .form ≡ formIn r) where
   abbrev s : List ℕ
   s = checkpointOf t
 
@@ -62,9 +64,13 @@ module _ (t : Table) (shape : Shape t) (k : Kept t) (names : (i : ℕ) → i < t
   roster-same : roster fresh ≡ roster t
   roster-same = fresh-roster r e ∙ sym same
 
+  form-same : fresh .form ≡ t .form
+  unfolding freshTable
+  form-same = sym form
+
   all-calls : Filled t fresh s (callsIn s)
   all-calls =
-      filled t fresh s k (copied t k names) (fresh-shape r) (rules-kept fresh (fresh-holds r bytes e)) roster-same (λ p. rw (fresh-entries r))
+      filled t fresh s k (copied t k names) (fresh-shape r) (rules-kept fresh (fresh-holds r bytes e)) roster-same form-same (λ p. rw (fresh-entries r))
       (callsIn s) (le-refl (callsIn s))
 
   abbrev over : Table
@@ -88,21 +94,28 @@ module _ (t : Table) (shape : Shape t) (k : Kept t) (names : (i : ℕ) → i < t
   joined : (n : ℕ) → n ≤ connectionsIn s → Joined over s n
   joined = joined-all t over s k all-held (all-calls .shape) (all-calls .kept) over-same calls-same idle
 
-  sound : (n : ℕ) → n ≤ connectionsIn s → Sound (recordsIn r (customersIn r)) (withConnections over s n)
-  sound = connections-sound (recordsIn r (customersIn r)) over s (records-fit t s k all-held) (calls-sound (recordsIn r (customersIn r)) fresh s (fresh-sound r bytes e) (callsIn s))
+  sound : (n : ℕ) → n ≤ connectionsIn s → Sound r (withConnections over s n)
+  sound = connections-sound r over s (records-fit t s k all-held) (calls-sound r fresh s (fresh-sound r bytes e) (callsIn s))
 
   -- ---- the calls
 
-  word-back : over .occupied ≡ t .occupied
-  word-back = word-same 64 (over .occupied) (t .occupied) (all-calls .shape .word) (shape .word) (λ i l.
-      same-bit (isUsed (over .occupied) i) (isUsed (t .occupied) i) (sym (slot-used over i l) ∙ calls-same (λ e. eqb i (e .slot)) ∙ slot-used t i l))
+  words-back : over .occupied ≡ t .occupied
+  words-back =
+      words-same (over .occupied) (t .occupied) (all-calls .shape .words) (shape .words)
+      (split slots
+      (λ i l m. same-bit (isUsed (over .occupied) i) (isUsed (t .occupied) i) (sym (slot-used over i l) ∙ calls-same (λ e. eqb i (e .slot)) ∙ slot-used t i l))
+      (λ i l m. outside over (all-calls .kept) i l m ∙ sym (outside t k i l m)))
+    where
+      -- no slot that the table does not have is used
+      outside : (u : Table) → Kept u → (i : ℕ) → slots ≤ i → i < bits → isUsed (u .occupied) i ≡ false
+      outside u k i l m = outside-free u k i (omega (arith, total-most (u .form))) m
 
-  call-back : (i : ℕ) → i < totalOf t → isUsed (t .occupied) i ≡ true → callAt over i ≡ withoutPlaces (callAt t i)
-  call-back i l u = all-calls .fields i l (ap (λ w. isUsed w i) word-back ∙ u)
+  call-back : (i : ℕ) → i < slots → isUsed (t .occupied) i ≡ true → callAt over i ≡ withoutPlaces (callAt t i)
+  call-back i l u = all-calls .fields i l (ap (λ w. isUsed w i) words-back ∙ u)
 
   -- ---- the connections, one after the other
 
-  none-under : (i : ℕ) → i < totalOf t → isUsed (t .occupied) i ≡ true → heldIn (callFour (callAt over i)) ≡ []
+  none-under : (i : ℕ) → i < slots → isUsed (t .occupied) i ≡ true → heldIn (callFour (callAt over i)) ≡ []
   unfolding below elementIf
   none-under i l u = rw (call-back i l u)
 
@@ -111,14 +124,14 @@ module _ (t : Table) (shape : Shape t) (k : Kept t) (names : (i : ℕ) → i < t
       nothing _ (omega (
         arith,
         idle (λ x. true),
-        count-append (λ x. true) (below (heldAt over) (totalOf t)) (below (standaloneAt over) 8),
+        count-append (λ x. true) (below (heldAt over) slots) (below (standaloneAt over) 8),
         row-within (λ x. true) (λ i. ltb i (over .listed)) (λ i. heldIn (customerFour (customerAt over i))) 8 i l
             (ap (λ n. ltb i n) (listed-same t over k (all-calls .kept) over-same) ∙ u),
       ))
 
   standing : (n : ℕ) → n ≤ connectionsIn s → Standing t (withConnections over s n) (below g n)
   unfolding withConnections below
-  standing zero h = record { occupied = word-back; fields = λ i l u. ap withoutPlaces (call-back i l u); under = none-under; standalone = none-standalone }
+  standing zero h = record { occupied = words-back; fields = λ i l u. ap withoutPlaces (call-back i l u); under = none-under; standalone = none-standalone }
   standing (suc n) h =
       let b = joined n (omega arith) in
       let m = may t over s k all-held (all-calls .shape) (all-calls .kept) over-same calls-same idle n h b in
@@ -173,13 +186,13 @@ module _ (t : Table) (shape : Shape t) (k : Kept t) (names : (i : ℕ) → i < t
   }
 
 pub round-trip : RoundTrip
-round-trip t w r bytes e same =
+round-trip t w r bytes e same form =
     let k = rules-kept t (w .rules) in
     let a = accepted (rosterAnswer r) e in
-    subst (ReadBack t) (sym (read-complete t (w .shape) k (w .names) r bytes a same false)) (from-checkpoint t (w .shape) k (w .names) r bytes a same)
+    subst (ReadBack t) (sym (read-complete t (w .shape) k (w .names) r bytes a same form false)) (from-checkpoint t (w .shape) k (w .names) r bytes a same form)
 
 pub salvage-same : SalvageSame
-salvage-same t w r bytes e same =
+salvage-same t w r bytes e same form =
     let k = rules-kept t (w .rules) in
     let a = accepted (rosterAnswer r) e in
-    read-complete t (w .shape) k (w .names) r bytes a same true ∙ sym (read-complete t (w .shape) k (w .names) r bytes a same false)
+    read-complete t (w .shape) k (w .names) r bytes a same form true ∙ sym (read-complete t (w .shape) k (w .names) r bytes a same form false)

@@ -15,28 +15,32 @@ use Rattle.lists.specs.Count.{has}
 use Rattle.lists.proofs.Count.{has-true, has-false}
 use Rattle.lists.proofs.Tests.{both}
 use Rattle.table.specs.Table.{Table}
-use Rattle.table.specs.Total.{totalOf}
+use Rattle.table.specs.Total.{slots, totalOf}
 use Rattle.table.specs.Word.{isUsed}
 use Rattle.table.specs.Zeros.{noPlace}
-use Rattle.table.specs.Lists.{Terms, roster, Held, held, entries}
+use Rattle.table.specs.Lists.{roster, Held, held, entries}
 use Rattle.table.specs.Share.{isListed}
 use Rattle.table.specs.Rules.{sameConnection, placeValid, rulesHold}
+use Rattle.table.specs.Roster.{formIn, customersIn, recordsIn}
+use Rattle.table.proofs.Within.{total-most}
 use Rattle.spec_changes.specs.Shape.{Shape}
 use Rattle.spec_changes.specs.Connections.{placeFor, added, callMissing}
 use Rattle.spec_changes.proofs.Valid.{valid-place}
 use Rattle.spec_changes.proofs.Opened.{used-shape}
 use Rattle.spec_changes.proofs.Added.{MayAdd, added-roster, added-shape, added-kept}
+use Rattle.spec_changes.proofs.Tables.{added-form}
 use Rattle.spec_changes.proofs.Told.{rules-kept, kept-rules}
 use Rattle.spec_checkpoint.specs.Layout.{Slotted, callsIn, connectionsIn, callRecord, connectionRecord}
 use Rattle.spec_checkpoint.specs.Places.{ClosedUp}
 use Rattle.spec_checkpoint.specs.Salvage.{placed, soundAlone, keptByLongId, callFits, withCalls, connectionFits, withConnections, salvaged}
 use Rattle.spec_checkpoint.proofs.Closed.{closed-placed, closed-added}
 
--- what stays true of the table from one record to the next
-pub record Sound (r : List Terms) (t : Table) : Type 0 where
+-- what stays true of the table from one record to the next: r is the roster that the copy is read under
+pub record Sound (r : List ℕ) (t : Table) : Type 0 where
   pub shape : Shape t
   pub rules : rulesHold t ≡ true
-  pub roster : roster t ≡ r
+  pub roster : roster t ≡ recordsIn r (customersIn r)
+  pub form : t .form ≡ formIn r
   pub closed : ClosedUp t
 
 -- a table where a test passes, the one before where it does not
@@ -46,21 +50,22 @@ either P false t u p q = p
 
 -- ---- calls
 
--- a record that step 2 keeps names a slot within the total
-pub kept-inside : (fresh : Table) (s : List ℕ) (i : ℕ) → keptByLongId fresh s i ≡ true → callRecord s i .slot < totalOf fresh
+-- a record that step 2 keeps names a slot within the total, and so one of the table's
+pub kept-inside : (fresh : Table) (s : List ℕ) (i : ℕ) → keptByLongId fresh s i ≡ true → callRecord s i .slot < slots
 unfolding keptByLongId soundAlone
-kept-inside fresh s i h = ltb-true _ _ (both _ _ (both _ _ h .0) .0)
+kept-inside fresh s i h = omega (arith, ltb-true (callRecord s i .slot) (totalOf fresh) (both _ _ (both _ _ h .0) .0), total-most (fresh .form))
 
-call-sound : (r : List Terms) (t : Table) (c : Slotted) → c .slot < totalOf t → c .call .places ≡ replicate 4 noPlace → callFits t c ≡ true → Sound r t → Sound r (placed t c)
+call-sound : (r : List ℕ) (t : Table) (c : Slotted) → c .slot < slots → c .call .places ≡ replicate 4 noPlace → callFits t c ≡ true → Sound r t → Sound r (placed t c)
 unfolding callFits
 call-sound r t c h p f i = record {
   shape = used-shape t (c .slot) (c .call) (i .shape) h (ap length p);
   rules = both (not (isUsed (t .occupied) (c .slot))) _ f .1;
   roster = i .roster;
+  form = i .form;
   closed = closed-placed t c (i .shape) h p (i .closed);
 }
 
-pub calls-sound : (r : List Terms) (fresh : Table) (s : List ℕ) → Sound r fresh → (n : ℕ) → Sound r (withCalls fresh s n)
+pub calls-sound : (r : List ℕ) (fresh : Table) (s : List ℕ) → Sound r fresh → (n : ℕ) → Sound r (withCalls fresh s n)
 unfolding withCalls
 calls-sound r fresh s i zero = i
 calls-sound r fresh s i (suc n) =
@@ -89,13 +94,14 @@ may-add t x v f =
     by true e z = refl
     by false e z = rw e at z
 
-connection-sound : (r : List Terms) (t : Table) (x : Held) → placeValid (placeFor (x .lsp)) ≡ true → connectionFits t x ≡ true → Sound r t → Sound r (added t x)
+connection-sound : (r : List ℕ) (t : Table) (x : Held) → placeValid (placeFor (x .lsp)) ≡ true → connectionFits t x ≡ true → Sound r t → Sound r (added t x)
 connection-sound r t x v f i =
     let m = may-add t x v f in
     record {
       shape = added-shape t x (i .shape) m;
       rules = kept-rules (added t x) (added-kept t x (i .shape) m (rules-kept t (i .rules)));
       roster = added-roster t x (i .shape) m ∙ i .roster;
+      form = added-form t x ∙ i .form;
       closed = closed-added t x (i .shape) m (i .closed);
     }
 
@@ -109,7 +115,7 @@ bytes-fit s b n h =
     let at = 4 + 55 * callsIn s + 18 * n in
     valid-place (connectionRecord s n .lsp) (be16-bound s (at + 6) b) (be16-bound s (at + 16) b)
 
-pub connections-sound : (r : List Terms) (t : Table) (s : List ℕ) → RecordsFit s → Sound r t → (n : ℕ) → n ≤ connectionsIn s → Sound r (withConnections t s n)
+pub connections-sound : (r : List ℕ) (t : Table) (s : List ℕ) → RecordsFit s → Sound r t → (n : ℕ) → n ≤ connectionsIn s → Sound r (withConnections t s n)
 unfolding withConnections
 connections-sound r t s v i zero l = i
 connections-sound r t s v i (suc n) l =
@@ -118,6 +124,6 @@ connections-sound r t s v i (suc n) l =
     either (Sound r) (connectionFits before (connectionRecord s n)) (added before (connectionRecord s n)) before k
     (λ h. connection-sound r before (connectionRecord s n) (v n l) h k)
 
-pub salvaged-sound : (r : List Terms) (fresh : Table) (s : List ℕ) → RecordsFit s → Sound r fresh → Sound r (salvaged fresh s)
+pub salvaged-sound : (r : List ℕ) (fresh : Table) (s : List ℕ) → RecordsFit s → Sound r fresh → Sound r (salvaged fresh s)
 unfolding salvaged
 salvaged-sound r fresh s v i = connections-sound r _ s v (calls-sound r fresh s i (callsIn s)) (connectionsIn s) (le-refl (connectionsIn s))

@@ -14,7 +14,7 @@ use Rattle.lists.proofs.Tests.{both}
 use Rattle.lists.proofs.Count.{without-append}
 use Rattle.lists.proofs.Below.{below-ext, below-nothing, below-first, length-each, getD-each, every-at}
 use Rattle.table.specs.Table.{Place, Call, Customer, Table}
-use Rattle.table.specs.Total.{totalOf}
+use Rattle.table.specs.Total.{slots}
 use Rattle.table.specs.Word.{isUsed}
 use Rattle.table.specs.Lists.{Terms, customerAt, termsOf, roster, idsOf, callAt, openAt, entries, Held, Four, callFour, customerFour, placeAt, isTaken, heldPlace, heldIn, heldAt, standaloneAt, held}
 use Rattle.table.specs.Rules.{placeClear, fourClear, unusedClear, callClear, customerClear}
@@ -24,13 +24,13 @@ use Rattle.spec_changes.proofs.Kept.{Kept}
 use Rattle.spec_changes.proofs.Added.{MayAdd}
 use Rattle.spec_changes.proofs.Told.{listed-most}
 use Rattle.spec_checkpoint.specs.Places.{ClosedUp, withoutPlaces}
-use Rattle.spec_checkpoint.proofs.Order.{underOf, standaloneOf, under-all, standalone-all, under-grows, standalone-grows, fields-stay, word-stays}
+use Rattle.spec_checkpoint.proofs.Order.{underOf, standaloneOf, under-all, standalone-all, under-grows, standalone-grows, fields-stay, words-stay}
 
 -- u has t's calls, and of t's connections those of the list
 pub record Standing (t u : Table) (l : List Held) : Type 0 where
   pub occupied : u .occupied ≡ t .occupied
-  pub fields : (i : ℕ) → i < totalOf t → isUsed (t .occupied) i ≡ true → withoutPlaces (callAt u i) ≡ withoutPlaces (callAt t i)
-  pub under : (i : ℕ) → i < totalOf t → isUsed (t .occupied) i ≡ true → heldIn (callFour (callAt u i)) ≡ underOf (callAt t i) l
+  pub fields : (i : ℕ) → i < slots → isUsed (t .occupied) i ≡ true → withoutPlaces (callAt u i) ≡ withoutPlaces (callAt t i)
+  pub under : (i : ℕ) → i < slots → isUsed (t .occupied) i ≡ true → heldIn (callFour (callAt u i)) ≡ underOf (callAt t i) l
   pub standalone : (i : ℕ) → i < 8 → ltb i (t .listed) ≡ true → heldIn (customerFour (customerAt u i)) ≡ standaloneOf (customerAt t i) l
 
 -- ---- two tables of one roster list the same customers in the same places
@@ -60,7 +60,7 @@ module _ (t u : Table) (k : Kept t) (m : Kept u) (same : roster u ≡ roster t) 
 
   pub stands-on : (x : Held) (l : List Held) → Shape u → MayAdd u x → ClosedUp u → Standing t u l → Standing t (added u x) (l ++ x ∷ [])
   stands-on x l s a o b = record {
-    occupied = word-stays u x s m a o ∙ b .occupied;
+    occupied = words-stay u x s m a o ∙ b .occupied;
     fields = λ i h v. fields-stay u x s m a o i ∙ b .fields i h v;
     under = λ i h v.
         under-grows u x s m a o i h (ap (λ w. isUsed w i) (b .occupied) ∙ v)
@@ -97,7 +97,7 @@ customer-four-clear c h =
     both (eqb (c .address) 0 && eqb (c .guarantee) 0 && eqb (c .limit) 0) (fourClear (customerFour c)) (a .0) .1
 
 module _ (t : Table) (k : Kept t) where
-  free-slot-four : (i : ℕ) → i < totalOf t → isUsed (t .occupied) i ≡ false → heldIn (callFour (callAt t i)) ≡ []
+  free-slot-four : (i : ℕ) → i < slots → isUsed (t .occupied) i ≡ false → heldIn (callFour (callAt t i)) ≡ []
   free-slot-four i l u = clear-four (callFour (callAt t i)) (call-four-clear (callAt t i) (rw u at (k .slots i l)))
 
   unlisted-four : (i : ℕ) → i < 8 → ltb i (t .listed) ≡ false → heldIn (customerFour (customerAt t i)) ≡ []
@@ -106,7 +106,7 @@ module _ (t : Table) (k : Kept t) where
 -- ---- with all of its connections
 
 module _ (t u : Table) (k : Kept t) (m : Kept u) (same : roster u ≡ roster t) (b : Standing t u (held t)) where
-  pub under-same : (i : ℕ) → i < totalOf t → heldIn (callFour (callAt u i)) ≡ heldIn (callFour (callAt t i))
+  pub under-same : (i : ℕ) → i < slots → heldIn (callFour (callAt u i)) ≡ heldIn (callFour (callAt t i))
   under-same i l = by (isUsed (t .occupied) i) refl
     where
       by : (c : Bool) → isUsed (t .occupied) i ≡ c → heldIn (callFour (callAt u i)) ≡ heldIn (callFour (callAt t i))
@@ -122,14 +122,14 @@ module _ (t u : Table) (k : Kept t) (m : Kept u) (same : roster u ≡ roster t) 
 
   pub entries-same : entries u ≡ entries t
   unfolding elementIf
-  entries-same = below-ext (openAt u) (openAt t) (totalOf t) (λ i l. by i l (isUsed (t .occupied) i) refl)
+  entries-same = below-ext (openAt u) (openAt t) slots (λ i l. by i l (isUsed (t .occupied) i) refl)
     where
-      by : (i : ℕ) → i < totalOf t → (c : Bool) → isUsed (t .occupied) i ≡ c → openAt u i ≡ openAt t i
+      by : (i : ℕ) → i < slots → (c : Bool) → isUsed (t .occupied) i ≡ c → openAt u i ≡ openAt t i
       by i l true e = rw (b .occupied, e) (ap (λ c. record { slot = i; ids = idsOf c } ∷ []) (b .fields i l e))
       by i l false e = rw (b .occupied, e)
 
   pub held-same : held u ≡ held t
   held-same =
       ap₂ _++_
-      (below-ext (heldAt u) (heldAt t) (totalOf t) (λ i l. ap₂ listIf (ap (λ w. isUsed w i) (b .occupied)) (under-same i l)))
+      (below-ext (heldAt u) (heldAt t) slots (λ i l. ap₂ listIf (ap (λ w. isUsed w i) (b .occupied)) (under-same i l)))
       (below-ext (standaloneAt u) (standaloneAt t) 8 (λ i l. ap₂ listIf (ap (λ n. ltb i n) (listed-same t u k m same)) (standalone-same i l)))

@@ -5,6 +5,7 @@ use lib.ListN.{length}
 use borrow.Author.Tests.{lt-ltb, le-ltb}
 use Rattle.numbers.specs.Buffer.{atFront}
 use Rattle.lists.specs.Below.{elementIf, listIf, below}
+use Rattle.table.specs.Word.{isUsed}
 use Rattle.table.specs.Zeros.{noCustomer, emptyTable}
 use Rattle.table.proofs.Fresh.{empty-holds}
 use Rattle.spec_changes.proofs.Words.{words-shape, words-names}
@@ -15,10 +16,10 @@ use Rattle.spec_checkpoint.specs.Claims.{WordsWritable, ExactFit, LeastC
 use Rattle.spec_checkpoint.proofs.Written.{checkpoint-size}
 
 pub words-writable : WordsWritable
-words-writable w low high h = record { shape = words-shape w low high; names = words-names w; rules = h }
+words-writable w fits h = record { shape = words-shape w fits; names = words-names w; rules = h }
 
 pub least-copy : LeastCopy
-unfolding written atFront checkpointOf elementIf listIf below emptyTable noCustomer
+unfolding written atFront checkpointOf elementIf listIf below isUsed emptyTable noCustomer
 least-copy = (rw empty-holds, rw empty-holds)
 
 pub exact-fit : ExactFit

@@ -15,7 +15,7 @@ use Rattle.lists.specs.Below.{elementIf, below, everyBelow}
 use Rattle.lists.proofs.Below.{count-element, count-nowhere, below-ext}
 use Rattle.lists.proofs.Tests.{both}
 use Rattle.table.specs.Table.{Call, Table}
-use Rattle.table.specs.Total.{totalOf}
+use Rattle.table.specs.Total.{slots, totalOf}
 use Rattle.table.specs.Word.{isUsed}
 use Rattle.table.specs.Lists.{Entry, idsOf, callAt, entries, Held, held}
 use Rattle.table.specs.Rules.{validIds, unusedClear, placeClear, placeValid, callFreeClear}
@@ -36,12 +36,12 @@ noHeld = record { call = 0; lsp = record { endpoint = 0; tunnel = 0; extended = 
 
 -- ---- the checkpoint of a table that keeps the rules
 
-module _ (t : Table) (k : Kept t) (names : (i : ℕ) → i < totalOf t → length (callAt t i .name) ≡ 32) where
+module _ (t : Table) (k : Kept t) (names : (i : ℕ) → i < slots → length (callAt t i .name) ≡ 32) where
   abbrev s : List ℕ
   s = checkpointOf t
 
-  abbrev slots : List ℕ
-  slots = used (isUsed (t .occupied)) (totalOf t)
+  abbrev usedSlots : List ℕ
+  usedSlots = used (isUsed (t .occupied)) slots
 
   abbrev entry : ℕ → Entry
   entry i = record { slot = i; ids = idsOf (callAt t i) }
@@ -52,29 +52,29 @@ module _ (t : Table) (k : Kept t) (names : (i : ℕ) → i < totalOf t → lengt
   abbrev head : List ℕ
   head = headBytes (length (entries t)) (length (held t))
 
-  listed-slots : entries t ≡ map entry slots
-  listed-slots = used-elements (isUsed (t .occupied)) entry (totalOf t)
+  listed-slots : entries t ≡ map entry usedSlots
+  listed-slots = used-elements (isUsed (t .occupied)) entry slots
 
-  as-many : length slots ≡ length (entries t)
-  as-many = sym (ap length listed-slots ∙ map-length entry slots)
+  as-many : length usedSlots ≡ length (entries t)
+  as-many = sym (ap length listed-slots ∙ map-length entry usedSlots)
 
-  in-use : (j : ℕ) → j < length slots → (getD slots j 0 < totalOf t) × (isUsed (t .occupied) (getD slots j 0) ≡ true)
+  in-use : (j : ℕ) → j < length usedSlots → (getD usedSlots j 0 < slots) × (isUsed (t .occupied) (getD usedSlots j 0) ≡ true)
   in-use j h =
-      let p : ℕ → Bool = λ i. ltb i (totalOf t) && isUsed (t .occupied) i in
-      let w = both _ _ (passes p 0 slots (count-nowhere (λ i. not (p i)) (λ i. elementIf (isUsed (t .occupied) i) i) (totalOf t) (λ i l.
-      count-element (λ i. not (p i)) (isUsed (t .occupied) i) i ∙ rw (lt-ltb i (totalOf t) l) (by (isUsed (t .occupied) i)))) j h) in
+      let p : ℕ → Bool = λ i. ltb i slots && isUsed (t .occupied) i in
+      let w = both _ _ (passes p 0 usedSlots (count-nowhere (λ i. not (p i)) (λ i. elementIf (isUsed (t .occupied) i) i) slots (λ i l.
+      count-element (λ i. not (p i)) (isUsed (t .occupied) i) i ∙ rw (lt-ltb i slots l) (by (isUsed (t .occupied) i)))) j h) in
       (ltb-true _ _ (w .0), w .1)
     where
       by : (b : Bool) → bit (b && not b) ≡ 0
       by true = refl
       by false = refl
 
-  blocks : Blocks block 55 0 slots
-  blocks j h = call-size (getD slots j 0) (callAt t (getD slots j 0)) (names _ (in-use j h .0))
+  blocks : Blocks block 55 0 usedSlots
+  blocks j h = call-size (getD usedSlots j 0) (callAt t (getD usedSlots j 0)) (names _ (in-use j h .0))
 
-  parts : s ≡ head ++ joined block slots ++ joined connectionBytes (held t)
+  parts : s ≡ head ++ joined block usedSlots ++ joined connectionBytes (held t)
   unfolding checkpointOf
-  parts = rw (used-blocks (isUsed (t .occupied)) block (totalOf t))
+  parts = rw (used-blocks (isUsed (t .occupied)) block slots)
 
   -- ---- the head
 
@@ -90,33 +90,33 @@ module _ (t : Table) (k : Kept t) (names : (i : ℕ) → i < totalOf t → lengt
   pub form-in : formIn s ≡ 1
   form-in = rw parts (omega (arith, open-most t))
 
-  calls-size : length (joined block slots) ≡ 55 * length (entries t)
-  calls-size = joined-length block 55 0 slots blocks ∙ ap (λ (n : ℕ). 55 * n) as-many
+  calls-size : length (joined block usedSlots) ≡ 55 * length (entries t)
+  calls-size = joined-length block 55 0 usedSlots blocks ∙ ap (λ (n : ℕ). 55 * n) as-many
 
   pub checkpoint-size : length s ≡ checkpointSize (length (entries t)) (length (held t))
   checkpoint-size =
       rw parts
       (omega (
         arith,
-        length-append (head ++ joined block slots) (joined connectionBytes (held t)),
-        length-append head (joined block slots),
+        length-append (head ++ joined block usedSlots) (joined connectionBytes (held t)),
+        length-append head (joined block usedSlots),
         calls-size,
         joined-length connectionBytes 18 noHeld (held t) (λ j h. connection-size (getD (held t) j noHeld)),
       ))
 
   -- ---- the call records
 
-  free-clear-used : (i : ℕ) → i < totalOf t → isUsed (t .occupied) i ≡ true → callFreeClear (callAt t i) ≡ true
+  free-clear-used : (i : ℕ) → i < slots → isUsed (t .occupied) i ≡ true → callFreeClear (callAt t i) ≡ true
   free-clear-used i l u = rw u at (k .slots i l)
 
-  record-of : (j : ℕ) → j < callsIn s → callRecord s j ≡ record { slot = getD slots j 0; call = withoutPlaces (callAt t (getD slots j 0)) }
+  record-of : (j : ℕ) → j < callsIn s → callRecord s j ≡ record { slot = getD usedSlots j 0; call = withoutPlaces (callAt t (getD usedSlots j 0)) }
   record-of j h =
-      let l : j < length slots = omega (arith, as-many, calls-in) in
-      let i = getD slots j 0 in
+      let l : j < length usedSlots = omega (arith, as-many, calls-in) in
+      let i = getD usedSlots j 0 in
       let u = in-use j l in
       let split : Split s (block i) (4 + 55 * j) =
       subst (λ z. Split z (block i) (4 + 55 * j)) (sym parts)
-      (split-between head (joined block slots) (joined connectionBytes (held t)) (block i) (55 * j) (joined-split block 55 0 slots blocks j l)) in
+      (split-between head (joined block usedSlots) (joined connectionBytes (held t)) (block i) (55 * j) (joined-split block 55 0 usedSlots blocks j l)) in
       call-back s (4 + 55 * j) i (callAt t i) (names i (u .0)) split (k .names i (u .0) (u .1)) (free-clear-used i (u .0) (u .1))
 
   without-names : (c : Call) → validIds c ≡ true → validIds (withoutPlaces c) ≡ true
@@ -128,22 +128,22 @@ module _ (t : Table) (k : Kept t) (names : (i : ℕ) → i < totalOf t → lengt
   without-free-clear c h = rw (both (unusedClear c && zerosAt (c .name) (c .size) (32 - c .size)) _ h .0)
 
   -- what holds of each call that stands in a used slot holds of each record
-  by-record : (P : Slotted → Type 0) → ((i : ℕ) → i < totalOf t → isUsed (t .occupied) i ≡ true → P (record { slot = i; call = withoutPlaces (callAt t i) }))
+  by-record : (P : Slotted → Type 0) → ((i : ℕ) → i < slots → isUsed (t .occupied) i ≡ true → P (record { slot = i; call = withoutPlaces (callAt t i) }))
       → (j : ℕ) → j < callsIn s → P (callRecord s j)
   by-record P f j h =
       let u = in-use j (omega (arith, as-many, calls-in)) in
-      subst (λ (r : Slotted). P r) (sym (record-of j h)) (f (getD slots j 0) (u .0) (u .1))
+      subst (λ (r : Slotted). P r) (sym (record-of j h)) (f (getD usedSlots j 0) (u .0) (u .1))
 
   entries-are : below (λ j. entryOf (callRecord s j) ∷ []) (callsIn s) ≡ entries t
   entries-are =
-      below-ext (λ j. entryOf (callRecord s j) ∷ []) (λ j. entry (getD slots j 0) ∷ []) (callsIn s) (λ j h. ap (λ (r : Slotted). entryOf r ∷ []) (record-of j h))
-      ∙ ap (below (λ j. entry (getD slots j 0) ∷ [])) (calls-in ∙ sym as-many)
-      ∙ each-of entry 0 slots
+      below-ext (λ j. entryOf (callRecord s j) ∷ []) (λ j. entry (getD usedSlots j 0) ∷ []) (callsIn s) (λ j h. ap (λ (r : Slotted). entryOf r ∷ []) (record-of j h))
+      ∙ ap (below (λ j. entry (getD usedSlots j 0) ∷ [])) (calls-in ∙ sym as-many)
+      ∙ each-of entry 0 usedSlots
       ∙ sym listed-slots
 
   pub copied : Copied t s
   copied = record {
-    slots = by-record (λ r. r .slot < totalOf t) (λ i l u. l);
+    slots = by-record (λ r. r .slot < totalOf t) (λ i l u. k .within i (omega arith) u);
     names = by-record (λ r. validIds (r .call) ≡ true) (λ i l u. without-names (callAt t i) (k .names i l u));
     clear = by-record (λ r. callFreeClear (r .call) ≡ true) (λ i l u. without-free-clear (callAt t i) (free-clear-used i l u));
     call = by-record (λ r. r .call ≡ withoutPlaces (callAt t (r .slot))) (λ i l u. refl);
@@ -156,12 +156,12 @@ module _ (t : Table) (k : Kept t) (names : (i : ℕ) → i < totalOf t → lengt
   connection-of n h =
       let l : n < length (held t) = omega (arith, connections-in) in
       let x = getD (held t) n noHeld in
-      let size : length (head ++ joined block slots) ≡ 4 + 55 * callsIn s = omega (arith, length-append head (joined block slots), calls-size, calls-in) in
+      let size : length (head ++ joined block usedSlots) ≡ 4 + 55 * callsIn s = omega (arith, length-append head (joined block usedSlots), calls-size, calls-in) in
       let there = joined-split connectionBytes 18 noHeld (held t) (λ j h. connection-size (getD (held t) j noHeld)) n l in
       let split : Split s (connectionBytes x) (4 + 55 * callsIn s + 18 * n) =
       subst (λ (a : ℕ). Split s (connectionBytes x) (a + 18 * n)) size
-      (subst (λ z. Split z (connectionBytes x) (length (head ++ joined block slots) + 18 * n)) (sym parts)
-      (split-behind (head ++ joined block slots) (joined connectionBytes (held t)) (connectionBytes x) (18 * n) there)) in
+      (subst (λ z. Split z (connectionBytes x) (length (head ++ joined block usedSlots) + 18 * n)) (sym parts)
+      (split-behind (head ++ joined block usedSlots) (joined connectionBytes (held t)) (connectionBytes x) (18 * n) there)) in
       connection-back s (4 + 55 * callsIn s + 18 * n) x split
 
   pub connections-are : below (λ n. connectionRecord s n ∷ []) (connectionsIn s) ≡ held t

@@ -11,14 +11,14 @@ use Rattle.numbers.specs.Search.{isIn}
 use Rattle.lists.specs.Count.{countIf}
 use Rattle.lists.specs.Below.{below}
 use Rattle.table.specs.Table.{Call, Table}
-use Rattle.table.specs.Total.{total, totalOf}
+use Rattle.table.specs.Total.{slots, totalOf}
 use Rattle.table.specs.Word.{isUsed}
 use Rattle.table.specs.Zeros.{emptyTable}
 use Rattle.table.specs.Lists.{customerAt, roster, callAt, entries, callFour, customerFour, heldIn, Held, held}
 use Rattle.table.specs.Words.{tableOf}
 use Rattle.table.specs.Share.{S}
 use Rattle.table.specs.Rules.{rulesHold}
-use Rattle.table.specs.Roster.{customersIn, recordsIn, rosterNumber, rosterAnswer, freshTable}
+use Rattle.table.specs.Roster.{formIn, customersIn, totalIn, recordsIn, rosterNumber, rosterAnswer, freshTable}
 use Rattle.spec_changes.specs.Shape.{Shape}
 use Rattle.spec_promises.specs.Ledger.{ledger}
 use Rattle.spec_promises.specs.Connections.{connectionsAfter}
@@ -33,12 +33,12 @@ use Rattle.spec_checkpoint.specs.Restored.{written, Restored, badSize, d
 -- a table that keeps the rules, with lists of the right length
 pub record Writable (t : Table) : Type 0 where
   pub shape : Shape t
-  pub names : (i : ℕ) → i < totalOf t → length (callAt t i .name) ≡ 32
+  pub names : (i : ℕ) → i < slots → length (callAt t i .name) ≡ 32
   pub rules : rulesHold t ≡ true
 
 -- the table of any words is one, where it keeps the rules
 abbrev pub WordsWritable : Type 0
-WordsWritable = (w : List ℕ) → getD w 4 0 < 0x100000000 → getD w 5 0 < 0x100000000 → rulesHold (tableOf w) ≡ true → Writable (tableOf w)
+WordsWritable = (w : List ℕ) → ((i : ℕ) → getD w i 0 < 0x100000000) → rulesHold (tableOf w) ≡ true → Writable (tableOf w)
 
 -- "73 buffer too short": a table that keeps the rules is written exactly where the buffer has room for its copy. Not so of a
 -- node that asks for a byte more than it writes.
@@ -67,9 +67,9 @@ pub record ReadBack (t : Table) (f : Restored) : Type 0 where
   pub connectionsDropped : f .connections ≡ 0
   -- the same slots are used, and the call in each has every field that it had
   pub occupied : f .table .occupied ≡ t .occupied
-  pub calls : (i : ℕ) → i < totalOf t → isUsed (t .occupied) i ≡ true → withoutPlaces (callAt (f .table) i) ≡ withoutPlaces (callAt t i)
+  pub calls : (i : ℕ) → i < slots → isUsed (t .occupied) i ≡ true → withoutPlaces (callAt (f .table) i) ≡ withoutPlaces (callAt t i)
   -- each call and each customer has the same connections in the same order
-  pub under : (i : ℕ) → i < totalOf t → heldIn (callFour (callAt (f .table) i)) ≡ heldIn (callFour (callAt t i))
+  pub under : (i : ℕ) → i < slots → heldIn (callFour (callAt (f .table) i)) ≡ heldIn (callFour (callAt t i))
   pub standalone : (k : ℕ) → k < 8 → heldIn (customerFour (customerAt (f .table) k)) ≡ heldIn (customerFour (customerAt t k))
   pub closed : ClosedUp (f .table)
   -- so that all open calls are the same, and all connections, as lists
@@ -81,13 +81,13 @@ pub record ReadBack (t : Table) (f : Restored) : Type 0 where
 -- a four in each other's place.
 abbrev pub RoundTrip : Type 0
 RoundTrip =
-    (t : Table) → Writable t → (r : List ℕ) → Bytes r → rosterNumber (rosterAnswer r) ≡ 0 → roster t ≡ recordsIn r (customersIn r)
+    (t : Table) → Writable t → (r : List ℕ) → Bytes r → rosterNumber (rosterAnswer r) ≡ 0 → roster t ≡ recordsIn r (customersIn r) → t .form ≡ formIn r
     → ReadBack t (restored false r (checkpointOf t))
 
 -- salvage of such a copy gives the same, and so drops nothing. Not so of a node whose salvage gives up a sound record.
 abbrev pub SalvageSame : Type 0
 SalvageSame =
-    (t : Table) → Writable t → (r : List ℕ) → Bytes r → rosterNumber (rosterAnswer r) ≡ 0 → roster t ≡ recordsIn r (customersIn r)
+    (t : Table) → Writable t → (r : List ℕ) → Bytes r → rosterNumber (rosterAnswer r) ≡ 0 → roster t ≡ recordsIn r (customersIn r) → t .form ≡ formIn r
     → restored true r (checkpointOf t) ≡ restored false r (checkpointOf t)
 
 -- ---- whatever bytes are read
@@ -141,6 +141,11 @@ OneKept = (fresh : Table) (s : List ℕ) (i : ℕ) → i < callsIn s → soundAl
 abbrev pub SlotNotLookedAt : Type 0
 SlotNotLookedAt = (s : List ℕ) (c : Call) (i j : ℕ) → namedBy s (record { slot = i; call = c }) ≡ namedBy s (record { slot = j; call = c })
 
+-- "drops calls that .. name a slot outside the total", the total of the roster that the copy is read under. Not so of a node
+-- that puts a call into slot 64 under a roster of form 1, since the table has that slot.
+abbrev pub OutsideDropped : Type 0
+OutsideDropped = (fresh : Table) (r : Slotted) → totalOf fresh ≤ r .slot → soundAlone fresh r ≡ false
+
 -- "drops each record that .. takes a taken slot". Not so of a node that moves it to a free one, or puts it there all the
 -- same.
 abbrev pub TakenSlotDropped : Type 0
@@ -177,18 +182,18 @@ ConnectionsDropped =
 -- ---- what comes after
 
 -- "Demand 3's list may also start from a table so read under an accepted roster: the ledger then holds the calls that these
--- rules restore, none after a refused reading, .. and counts them as opened." Not so of a node that counts a restored call
--- as room left.
+-- rules restore, none after a refused reading, .. and counts them as opened." The total is that of the roster. Not so of a
+-- node that counts a restored call as room left, or takes the total of the roster that the copy was written under.
 abbrev pub Demand3Restored : Type 0
 Demand3Restored =
     (salvage : Bool) (r s : List ℕ) → Bytes r → Bytes s → rosterNumber (rosterAnswer r) ≡ 0 → (xs : List Input)
-    → AtEveryStep (Promised total (recordsIn r (customersIn r)) (entries (restored salvage r s .table))) (restored salvage r s .table) [] xs
+    → AtEveryStep (Promised (totalIn r) (recordsIn r (customersIn r)) (entries (restored salvage r s .table))) (restored salvage r s .table) [] xs
 
 -- all along such a run the table keeps the rules and has the calls of that ledger
 abbrev pub AgreesRestored : Type 0
 AgreesRestored =
     (salvage : Bool) (r s : List ℕ) → Bytes r → Bytes s → rosterNumber (rosterAnswer r) ≡ 0 → (xs : List Input)
-    → AtEveryStep (λ u h x. Agrees u (ledger total (entries (restored salvage r s .table)) h)) (restored salvage r s .table) [] xs
+    → AtEveryStep (λ u h x. Agrees u (ledger (totalIn r) (entries (restored salvage r s .table)) h)) (restored salvage r s .table) [] xs
 
 -- and the connections that were restored, those added since, and no other, each under its Call ID. Not so of a node that
 -- lights a path under another call after a restart

@@ -6,7 +6,7 @@ use lib.ListN.{length, getD, take, drop, replicate}
 use Rattle.numbers.specs.BigEndian.{be16At, be24At, be32At, bytes16, bytes24, bytes32}
 use Rattle.lists.specs.Below.{listIf, below}
 use Rattle.table.specs.Table.{Call, Table}
-use Rattle.table.specs.Total.{totalOf}
+use Rattle.table.specs.Total.{slots}
 use Rattle.table.specs.Word.{isUsed}
 use Rattle.table.specs.Zeros.{noPlace}
 use Rattle.table.specs.Lists.{callAt, entries, Held, held}
@@ -82,5 +82,5 @@ headBytes calls connections = bytes16 (4096 + calls) ++ bytes16 connections
 unfoldable pub checkpointOf : Table → List ℕ
 checkpointOf t =
     headBytes (length (entries t)) (length (held t))
-    ++ below (λ i. listIf (isUsed (t .occupied) i) (callBytes i (callAt t i))) (totalOf t)
+    ++ below (λ i. listIf (isUsed (t .occupied) i) (callBytes i (callAt t i))) slots
     ++ joined connectionBytes (held t)

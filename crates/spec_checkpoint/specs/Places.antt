@@ -4,7 +4,7 @@ use mathlib.Core.Path.{_≡_}
 use mathlib.Core.Bool.{Bool, true}
 use lib.ListN.{replicate}
 use Rattle.table.specs.Table.{Call, Table}
-use Rattle.table.specs.Total.{totalOf}
+use Rattle.table.specs.Total.{slots}
 use Rattle.table.specs.Zeros.{noPlace}
 use Rattle.table.specs.Lists.{customerAt, callAt, callFour, customerFour, placeAt, isTaken}
 
@@ -13,7 +13,7 @@ abbrev pub InOrder : (ℕ → Bool) → Type 0
 InOrder taken = (j : ℕ) → j < 3 → taken (suc j) ≡ true → taken j ≡ true
 
 pub record ClosedUp (t : Table) : Type 0 where
-  pub under : (i : ℕ) → i < totalOf t → InOrder (λ j. isTaken (placeAt (callFour (callAt t i)) j))
+  pub under : (i : ℕ) → i < slots → InOrder (λ j. isTaken (placeAt (callFour (callAt t i)) j))
   pub standalone : (k : ℕ) → k < 8 → InOrder (λ j. isTaken (placeAt (customerFour (customerAt t k)) j))
 
 -- every field of a call but its places, as its record has it

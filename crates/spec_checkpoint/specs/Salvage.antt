@@ -19,7 +19,8 @@ use Rattle.spec_checkpoint.specs.Layout.{Slotted, callsIn, connectionsIn
 abbrev pub placed : Table → Slotted → Table
 placed t r = withSlot t (withUsed (t .occupied) (r .slot)) (r .slot) (r .call)
 
--- step 1: a call record that could not stand in the table by itself, or whose slot the table does not have, is dropped
+-- step 1: a call record that could not stand in the table by itself, or whose slot is outside the total of the roster that
+-- the copy is read under, is dropped
 unfoldable pub soundAlone : Table → Slotted → Bool
 soundAlone fresh r = ltb (r .slot) (totalOf fresh) && rulesHold (placed fresh r)
 

@@ -1,23 +1,25 @@
 -- Each change keeps the agreement of table and ledger.
 -- Assumes nothing.
-use Prim.Native.Nat.{ℕ, suc, _+_, _≤_, _<_}
+use Prim.Native.Nat.{ℕ, suc, _≤_, _<_}
 use native.Mathlib.Omega.{arith}
 use mathlib.Core.Path.{_≡_, refl, sym, ap, _∙_}
 use mathlib.Core.Logic.{_≢_}
 use mathlib.Core.List.{List, _∷_}
-use mathlib.Core.Bool.{Bool, true, false, _&&_}
+use mathlib.Core.Bool.{Bool, true, false}
 use lib.Dec.{eqb, ltb}
 use lib.ListN.{length, getD}
-use Rattle.lists.specs.Count.{bit, countIf, has, without}
+use borrow.Author.Tests.{ltb-true, ltb-false}
+use Rattle.lists.specs.Count.{countIf, has, without}
 use Rattle.lists.proofs.Tests.{both}
-use Rattle.lists.proofs.Search.{not-ext}
+use Rattle.lists.proofs.Search.{not-only}
 use Rattle.lists.proofs.Count.{some-bit, count-le, without-same, count-gone}
 use Rattle.table.specs.Table.{Table}
-use Rattle.table.specs.Total.{totalOf}
+use Rattle.table.specs.Total.{slots, totalOf}
 use Rattle.table.specs.Word.{isUsed, lowestFree}
 use Rattle.table.specs.Lists.{roster, Ids, Entry, callAt, idsOf, entries, Lsp, Held, held}
 use Rattle.table.specs.Rules.{rosterHolds, sameShort, sameLong, isLsp, rulesHold}
-use Rattle.spec_changes.specs.Shape.{Shape}
+use Rattle.table.proofs.Slots.{lowest-below, lowest-here}
+use Rattle.table.proofs.Within.{total-most}
 use Rattle.spec_changes.specs.Calls.{opened, isCall, slotOf, closed, identifierTaken}
 use Rattle.spec_changes.specs.Connections.{added, removed, isUnder}
 use Rattle.spec_changes.proofs.Kept.{Kept, MayOpen, room-for}
@@ -29,15 +31,31 @@ use Rattle.spec_changes.proofs.Removed.{removed-entries, removed-shape, removed
 use Rattle.spec_promises.specs.Ledger.{lowestSlot}
 use Rattle.spec_promises.specs.Promises.{Agrees}
 
--- ---- the ledger's lowest slot is the word's
+-- ---- the ledger's lowest slot is the words'
 
 abbrev inSlot : ℕ → Entry → Bool
 inSlot j e = eqb j (e .slot)
 
-lowest-is : (t : Table) (l : List Entry) → ((p : Entry → Bool) → countIf p (entries t) ≡ countIf p l) → lowestSlot l (totalOf t) ≡ lowestFree (t .occupied)
-lowest-is t l h =
-    not-ext (λ j. has (inSlot j) l) (isUsed (t .occupied)) (totalOf t) 0
-    (λ j a. ap (ltb 0) (sym (h (inSlot j)) ∙ slot-used t j (omega arith)) ∙ some-bit (isUsed (t .occupied) j))
+-- the words have bits for more slots than the total, and none of those is used: where every slot below it is, both are the
+-- total
+lowest-is : (t : Table) (l : List Entry) → Kept t → ((p : Entry → Bool) → countIf p (entries t) ≡ countIf p l) → lowestSlot l (totalOf t) ≡ lowestFree (t .occupied)
+lowest-is t l k h =
+    not-only (λ j. has (inSlot j) l) (totalOf t) 0 (lowestFree (t .occupied)) (omega arith) (omega (arith, most))
+    (λ j a b. says j (omega (arith, most, total-most (t .form))) ∙ lowest-below (t .occupied) j b)
+    (λ b. says (lowestFree (t .occupied)) (omega (arith, total-most (t .form))) ∙ lowest-here (t .occupied) (omega (arith, total-most (t .form))))
+  where
+    says : (j : ℕ) → j < slots → has (inSlot j) l ≡ isUsed (t .occupied) j
+    says j a = ap (ltb 0) (sym (h (inSlot j)) ∙ slot-used t j a) ∙ some-bit (isUsed (t .occupied) j)
+
+    most : lowestFree (t .occupied) ≤ totalOf t
+    most = by (ltb (totalOf t) (lowestFree (t .occupied))) refl
+      where
+        by : (b : Bool) → ltb (totalOf t) (lowestFree (t .occupied)) ≡ b → lowestFree (t .occupied) ≤ totalOf t
+        by true e =
+            let u = lowest-below (t .occupied) (totalOf t) (ltb-true _ _ e) in
+            let z : ⊥ = omega (arith, k .within (totalOf t) (omega (arith, total-most (t .form))) u) in
+            absurd z
+        by false e = ltb-false _ _ e
 
 -- ---- the next own identifier is nobody's concern
 
@@ -47,7 +65,7 @@ next-rules t = refl
 
 pub next-agrees : (t : Table) (l : List Entry) → Agrees t l → Agrees (identifierTaken t) l
 next-agrees t l g = record {
-  shape = record { calls = g .shape .calls; customers = g .shape .customers; word = g .shape .word; places = g .shape .places; endpoints = g .shape .endpoints; standalonePlaces = g .shape .standalonePlaces };
+  shape = record { calls = g .shape .calls; customers = g .shape .customers; words = g .shape .words; places = g .shape .places; endpoints = g .shape .endpoints; standalonePlaces = g .shape .standalonePlaces };
   rules = next-rules t ∙ g .rules;
   calls = g .calls;
 }
@@ -62,16 +80,16 @@ module _ (t : Table) (l : List Entry) (g : Agrees t l) where
 
   -- ---- opening and closing
 
-  -- what may be opened finds a free slot
+  -- what may be opened finds a free slot below the total
   free : (c : Ids) → MayOpen (totalOf t) (roster t) (entries t) c → lowestFree (t .occupied) < totalOf t
-  free c m = free-slot t (room-for (totalOf t) (roster t) (entries t) c (kept .calls) m)
+  free c m = free-slot t kept (room-for (totalOf t) (roster t) (entries t) c (kept .calls) m)
 
   pub open-agrees : (c : Ids) → MayOpen (totalOf t) (roster t) (entries t) c → 0 < c .short → c .short < 0x10000 → 0 < length (c .long) → length (c .long) ≤ 32
       → ((k : ℕ) → length (c .long) ≡ suc k → getD (c .long) k 0 ≢ 0) → Agrees (opened t c) (record { slot = lowestSlot l (totalOf t); ids = c } ∷ l)
   open-agrees c m short fits some most ends = record {
     shape = opened-shape t c (g .shape) (free c m);
     rules = kept-rules (opened t c) (opened-kept t c (g .shape) kept m (roster-kept t (kept .accepted) .apart) short fits some most ends);
-    calls = λ p. opened-entries t c (g .shape) (free c m) p ∙ rw (lowest-is t l (g .calls), g .calls p);
+    calls = λ p. opened-entries t c (g .shape) (free c m) p ∙ rw (lowest-is t l kept (g .calls), g .calls p);
   }
 
   pub open-held : (c : Ids) → MayOpen (totalOf t) (roster t) (entries t) c → (p : Held → Bool) → countIf p (held (opened t c)) ≡ countIf p (held t)

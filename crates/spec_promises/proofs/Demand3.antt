@@ -18,11 +18,11 @@ use Rattle.messages.specs.declared.message.Message.the-variants.{Open, Close, A
 use Rattle.table.specs.declared.answer.RosterAnswer.{RosterAnswer}
 use Rattle.table.specs.declared.answer.RosterAnswer.the-variants.{Accepted, Short, BadForm, Length, SpareBits, Share, Repeated, Guarantees}
 use Rattle.table.specs.Table.{Table}
-use Rattle.table.specs.Total.{total, totalOf}
+use Rattle.table.specs.Total.{totalFor, totalOf}
 use Rattle.table.specs.Lists.{Terms, roster, Ids, Entry, entries, Held, held}
 use Rattle.table.specs.Share.{isListed, limitOf, from, callsOf}
 use Rattle.table.specs.Rules.{samePair, sameShort, sameLong, isLsp}
-use Rattle.table.specs.Roster.{rosterNumber, customersIn, recordsIn, rosterAnswer, freshTable, tableFor}
+use Rattle.table.specs.Roster.{rosterNumber, customersIn, totalIn, recordsIn, rosterAnswer, freshTable, tableFor}
 use Rattle.table.proofs.Fresh.{fresh-holds, fresh-roster, fresh-entries, fresh-held}
 use Rattle.spec_changes.specs.Calls.{isCall}
 use Rattle.spec_changes.proofs.Told.{roster-kept, guarantee-within, rules-kept}
@@ -41,7 +41,7 @@ use Rattle.spec_calls.proofs.Decided.{open-never, open-same, close-never, add-n
 use Rattle.spec_promises.proofs.Due.{open-due}
 use Rattle.spec_promises.proofs.Formed.{Says, form-says}
 use Rattle.spec_promises.proofs.Step.{answer-is, step-agrees, step-roster, step-closes, step-held}
-use Rattle.spec_promises.proofs.Named.{retry-is-21, setup-cause}
+use Rattle.spec_promises.proofs.Named.{form-stays, retry-is-21, setup-cause}
 
 -- ---- opened is count and closed
 
@@ -124,30 +124,33 @@ module _ (t : Table) (l : List Entry) (g : Agrees t l) where
 -- ---- the whole list
 
 -- the calls opened, those at the start among them, are the count plus the calls closed
-abbrev Counted : List Entry → List Fed → Type 0
-Counted start h = (sender : ℕ) → callsOf start sender + answered 20 sender h ≡ callsOf (ledger total start h) sender + answered 22 sender h
+abbrev Counted : ℕ → List Entry → List Fed → Type 0
+Counted total start h = (sender : ℕ) → callsOf start sender + answered 20 sender h ≡ callsOf (ledger total start h) sender + answered 22 sender h
 
-step-counted : (t : Table) (start : List Entry) (h : List Fed) → Agrees t (ledger total start h) → (x : Input) → Counted start h → Counted start (fed t x ∷ h)
-step-counted t start h g x u a =
-    omega (arith, counted t (ledger total start h) g x a (callsOf start a + answered 20 a h) (answered 22 a h) (u a))
+module _ (t : Table) (start : List Entry) (h : List Fed) (x : Input) where
+  abbrev entered : List Entry
+  entered = ledger (totalOf t) start h
 
-step-promised : (t : Table) (start : List Entry) (h : List Fed) → Agrees t (ledger total start h) → (x : Input) → Counted start h
-    → Promised total (roster t) start t h x
-step-promised t start h g x u = record {
-  neverOne = never-one t (ledger total start h) g x;
-  defined = answer t (ledger total start h) g x;
-  counted = step-counted t start h g x u;
-  limited = limited t (ledger total start h) g x;
-  due = due t (ledger total start h) g x;
-  retried = λ q e known. retry-is-21 t (ledger total start h) g x q e known .0;
-  caused = setup-cause t (ledger total start h) g x;
-}
+  step-counted : Agrees t entered → Counted (totalOf t) start h → Counted (totalOf t) start (fed t x ∷ h)
+  step-counted g u a = omega (arith, counted t entered g x a (callsOf start a + answered 20 a h) (answered 22 a h) (u a))
 
--- what holds at every point of a run that began with these entries and these connections
-record Running (r : List Terms) (start : List Entry) (lit : List Held) (t : Table) (h : List Fed) : Type 0 where
+  step-promised : Agrees t entered → Counted (totalOf t) start h → Promised (totalOf t) (roster t) start t h x
+  step-promised g u = record {
+    neverOne = never-one t entered g x;
+    defined = answer t entered g x;
+    counted = step-counted g u;
+    limited = limited t entered g x;
+    due = due t entered g x;
+    retried = λ q e known. retry-is-21 t entered g x q e known .0;
+    caused = setup-cause t entered g x;
+  }
+
+-- what holds at every point of a run that began with this total and roster, these entries and these connections
+record Running (total : ℕ) (r : List Terms) (start : List Entry) (lit : List Held) (t : Table) (h : List Fed) : Type 0 where
+  pub totalIs : totalOf t ≡ total
   pub roster : roster t ≡ r
   pub agrees : Agrees t (ledger total start h)
-  pub counted : Counted start h
+  pub counted : Counted total start h
   pub connections : (p : Held → Bool) → countIf p (held t) ≡ countIf p (connectionsAfter lit h)
 
 -- lists of connections that count alike do so after the next message
@@ -161,32 +164,35 @@ feed-same e k l h p = by (is 23 (e .answer)) (is 25 (e .answer))
     by false true = without-same (isLsp (heldOf (e .message) .lsp)) k l h p
     by false false = h p
 
-module _ (r : List Terms) (start : List Entry) (lit : List Held) where
-  running-on : (t : Table) (h : List Fed) (x : Input) → Running r start lit t h → Running r start lit (tableThen t x) (fed t x ∷ h)
+module _ (total : ℕ) (r : List Terms) (start : List Entry) (lit : List Held) where
+  running-on : (t : Table) (h : List Fed) (x : Input) → Running total r start lit t h → Running total r start lit (tableThen t x) (fed t x ∷ h)
   running-on t h x i = record {
+    totalIs = ap totalFor (form-stays t x) ∙ i .totalIs;
     roster = step-roster t (ledger total start h) (i .agrees) x ∙ i .roster;
-    agrees = step-agrees t (ledger total start h) (i .agrees) x;
-    counted = step-counted t start h (i .agrees) x (i .counted);
+    agrees = subst (λ n. Agrees (tableThen t x) (feed n (fed t x) (ledger total start h))) (i .totalIs) (step-agrees t (ledger total start h) (i .agrees) x);
+    counted = subst (λ n. Agrees t (ledger n start h) → Counted n start h → Counted n start (fed t x ∷ h)) (i .totalIs) (step-counted t start h x) (i .agrees) (i .counted);
     connections = λ p. step-held t (ledger total start h) (i .agrees) x p ∙ feed-same (fed t x) (held t) (connectionsAfter lit h) (i .connections) p;
   }
 
   -- what follows from that at one step holds at every step
-  at-every-step : (P : Table → List Fed → Input → Type 0) → ((t : Table) (h : List Fed) (x : Input) → Running r start lit t h → P t h x)
-      → (xs : List Input) (t : Table) (h : List Fed) → Running r start lit t h → AtEveryStep P t h xs
+  at-every-step : (P : Table → List Fed → Input → Type 0) → ((t : Table) (h : List Fed) (x : Input) → Running total r start lit t h → P t h x)
+      → (xs : List Input) (t : Table) (h : List Fed) → Running total r start lit t h → AtEveryStep P t h xs
   at-every-step P f [] t h i = tt
   at-every-step P f (x ∷ xs) t h i = (f t h x i, at-every-step P f xs (tableThen t x) (fed t x ∷ h) (running-on t h x i))
 
-  promised : (t : Table) (h : List Fed) (x : Input) → Running r start lit t h → Promised total r start t h x
-  promised t h x i = subst (λ r. Promised total r start t h x) (i .roster) (step-promised t start h (i .agrees) x (i .counted))
+  promised : (t : Table) (h : List Fed) (x : Input) → Running total r start lit t h → Promised total r start t h x
+  promised t h x i =
+      subst (λ r. Promised total r start t h x) (i .roster)
+      (subst (λ n. Agrees t (ledger n start h) → Counted n start h → Promised n (roster t) start t h x) (i .totalIs) (step-promised t start h x) (i .agrees) (i .counted))
 
 -- ---- from any table that agrees with a ledger's entries at the start
 
 module _ (t : Table) (start : List Entry) (g : Agrees t start) (xs : List Input) where
-  from-start : (P : Table → List Fed → Input → Type 0) → ((u : Table) (h : List Fed) (x : Input) → Running (roster t) start (held t) u h → P u h x) → AtEveryStep P t [] xs
-  from-start P f = at-every-step (roster t) start (held t) P f xs t [] (record { roster = refl; agrees = g; counted = λ a. refl; connections = λ p. refl })
+  from-start : (P : Table → List Fed → Input → Type 0) → ((u : Table) (h : List Fed) (x : Input) → Running (totalOf t) (roster t) start (held t) u h → P u h x) → AtEveryStep P t [] xs
+  from-start P f = at-every-step (totalOf t) (roster t) start (held t) P f xs t [] (record { totalIs = refl; roster = refl; agrees = g; counted = λ a. refl; connections = λ p. refl })
 
 pub demand3-from : Demand3From
-demand3-from t start g xs = from-start t start g xs _ (promised (roster t) start (held t))
+demand3-from t start g xs = from-start t start g xs _ (promised (totalOf t) (roster t) start (held t))
 
 pub agrees-from : AgreesFrom
 agrees-from t start g xs = from-start t start g xs _ (λ u h x i. i .agrees)
@@ -196,7 +202,7 @@ connections-from t start g xs = from-start t start g xs _ (λ u h x i. i .connec
 
 -- ---- from the table of an accepted roster, which has no calls and no connections
 
-fresh-agrees : (s : List ℕ) → Bytes s → rosterAnswer s ≡ Accepted → Agrees (freshTable s) []
+pub fresh-agrees : (s : List ℕ) → Bytes s → rosterAnswer s ≡ Accepted → Agrees (freshTable s) []
 fresh-agrees s bytes e = record { shape = fresh-shape s; rules = fresh-holds s bytes e; calls = λ p. rw (fresh-entries s) }
 
 -- 0 is the accepted roster's answer, which returns the fresh table
@@ -218,16 +224,20 @@ table-roster : (s : List ℕ) → rosterNumber (rosterAnswer s) ≡ 0 → roster
 unfolding tableFor
 table-roster s e = let a = accepted (rosterAnswer s) e in rw a (fresh-roster s a)
 
+table-total : (s : List ℕ) → rosterNumber (rosterAnswer s) ≡ 0 → totalOf (tableFor (rosterAnswer s) s) ≡ totalIn s
+unfolding tableFor freshTable
+table-total s e = let a = accepted (rosterAnswer s) e in rw a
+
 table-held : (s : List ℕ) → rosterNumber (rosterAnswer s) ≡ 0 → held (tableFor (rosterAnswer s) s) ≡ []
 unfolding tableFor
 table-held s e = let a = accepted (rosterAnswer s) e in rw a (fresh-held s)
 
 pub demand3 : Demand3
-demand3 s bytes e xs = rw (← (table-roster s e)) (demand3-from (tableFor (rosterAnswer s) s) [] (table-agrees s bytes e) xs)
+demand3 s bytes e xs = rw (← (table-roster s e), ← (table-total s e)) (demand3-from (tableFor (rosterAnswer s) s) [] (table-agrees s bytes e) xs)
 
 -- what holds of a table that agrees with a ledger holds all along such a run
 pub agrees-throughout : AgreesThroughout
-agrees-throughout s bytes e xs = agrees-from (tableFor (rosterAnswer s) s) [] (table-agrees s bytes e) xs
+agrees-throughout s bytes e xs = rw (← (table-total s e)) (agrees-from (tableFor (rosterAnswer s) s) [] (table-agrees s bytes e) xs)
 
 pub connections-throughout : ConnectionsThroughout
 connections-throughout s bytes e xs =

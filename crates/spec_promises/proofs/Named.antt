@@ -1,5 +1,5 @@
--- What a customer asks for by name: retries, refusals, the table rules, and calls with connections. The statements are
--- those of specs/Claims.antt.
+-- What a customer asks for by name: retries, refusals, the roster's form, the table rules, and calls with connections. The
+-- statements are those of specs/Claims.antt.
 -- Assumes nothing.
 use Prim.Native.Nat.{ℕ, _<_}
 use native.Mathlib.Omega.{arith}
@@ -12,7 +12,6 @@ use borrow.Author.Tests.{eqb-true}
 use Rattle.lists.specs.Count.{countIf, has, without}
 use Rattle.lists.proofs.Tests.{both}
 use Rattle.lists.proofs.Count.{has-true, has-false, true-has, has-nothing, count-ext, count-split, count-without}
-use Rattle.messages.specs.declared.message.CallRequest.{CallRequest}
 use Rattle.messages.specs.declared.message.Message.the-variants.{Open, Close, Add, Drop}
 use Rattle.table.specs.Table.{Table}
 use Rattle.table.specs.Total.{totalOf}
@@ -20,6 +19,7 @@ use Rattle.table.specs.Lists.{roster, Ids, Entry, entries, Held, held}
 use Rattle.table.specs.Rules.{samePair, sameShort, sameLong}
 use Rattle.spec_changes.specs.Calls.{opened, isCall, closed, identifierTaken}
 use Rattle.spec_changes.specs.Connections.{added, removed, isUnder}
+use Rattle.spec_changes.proofs.Tables.{opened-form, closed-form, added-form, removed-form}
 use Rattle.answers.specs.declared.answer.Answer.{Answer}
 use Rattle.answers.specs.declared.answer.Answer.the-variants.{TableBroken, BufferTooSmall, Malformed, SenderNotListed, UnderOtherCall, NotHeld, CallOpened, CallAlreadyOpen, CallClosed, ConnectionAdded, ConnectionAlreadyHeld, ConnectionRemoved, CallIdContention, DuplicateCall, ConnectionsStillExist, UnknownCall, NoShare, PathUnknownCall, NoPlaceLeft}
 use Rattle.answers.specs.Answers.{answerNumber, is, sendsNotify}
@@ -29,7 +29,7 @@ use Rattle.spec_calls.specs.PathRules.{lspOf, heldBy}
 use Rattle.spec_calls.specs.Handling.{formTable, tableAfter}
 use Rattle.spec_promises.specs.Ledger.{fourOf, lowestSlot}
 use Rattle.spec_promises.specs.Promises.{fed, tableThen, Unchanged}
-use Rattle.spec_promises.specs.Claims.{RulesAfter, BusyCallStays, RetryIs21, SetupCause, RefusedUnchanged, QuietUnchanged}
+use Rattle.spec_promises.specs.Claims.{FormStays, RulesAfter, BusyCallStays, RetryIs21, SetupCause, RefusedUnchanged, QuietUnchanged}
 use Rattle.spec_calls.proofs.Decided.{open-again, open-same}
 use Rattle.spec_promises.proofs.Due.{open-cause}
 use Rattle.spec_promises.proofs.Formed.{numbered, fault-never}
@@ -96,6 +96,25 @@ pub quiet-unchanged : QuietUnchanged
 unfolding tableAfter
 quiet-unchanged t x =
     form-quiet t (x .message) (formOf (roster t) (x .message) (length (x .buffer))) (fed t x .answer)
+
+-- ---- the roster's form stays
+
+same-form : (t u : Table) (b notified : Bool) → u .form ≡ t .form → cond notified (identifierTaken (cond b u t)) (cond b u t) .form ≡ t .form
+same-form t u true true e = e
+same-form t u true false e = e
+same-form t u false true e = refl
+same-form t u false false e = refl
+
+form-same : (t : Table) (s : List ℕ) (f : Form) (a : Answer) → formTable t s f a .form ≡ t .form
+form-same t s (faulty _) a = refl
+form-same t s (sound (Open q)) a = same-form t (opened t (idsIn s q)) (is 20 a) (sendsNotify a) (opened-form t (idsIn s q))
+form-same t s (sound (Close q)) a = same-form t (closed t (idsIn s q)) (is 22 a) (sendsNotify a) (closed-form t (idsIn s q))
+form-same t s (sound (Add c)) a = same-form t (added t (heldBy c)) (is 23 a) (sendsNotify a) (added-form t (heldBy c))
+form-same t s (sound (Drop c)) a = same-form t (removed t (lspOf (c .lsp))) (is 25 a) (sendsNotify a) (removed-form t (lspOf (c .lsp)))
+
+pub form-stays : FormStays
+unfolding tableAfter
+form-stays t x = form-same t (x .message) (formOf (roster t) (x .message) (length (x .buffer))) (fed t x .answer)
 
 -- ---- a retry finds the call it opened
 

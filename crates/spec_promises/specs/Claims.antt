@@ -11,10 +11,10 @@ use Rattle.lists.specs.Count.{countIf, has}
 use Rattle.messages.specs.declared.message.CallRequest.{CallRequest}
 use Rattle.messages.specs.declared.message.Message.the-variants.{Open}
 use Rattle.table.specs.Table.{Table}
-use Rattle.table.specs.Total.{total, totalOf}
+use Rattle.table.specs.Total.{totalOf}
 use Rattle.table.specs.Lists.{roster, Ids, Entry, entries, Held, held}
 use Rattle.table.specs.Rules.{rulesHold}
-use Rattle.table.specs.Roster.{rosterNumber, customersIn, recordsIn, rosterAnswer, tableFor}
+use Rattle.table.specs.Roster.{rosterNumber, customersIn, totalIn, recordsIn, rosterAnswer, tableFor}
 use Rattle.spec_changes.specs.Connections.{callMissing, isUnder}
 use Rattle.answers.specs.Answers.{answerNumber, is, sendsNotify}
 use Rattle.spec_calls.specs.Form.{sound, formOf}
@@ -40,19 +40,25 @@ AtOneMessage P = (t : Table) (l : List Entry) → Agrees t l → (x : Input) →
 
 -- ---- demand 3
 
--- the ledger's promises (01, The ledger behind demand 3); `Promised` has them one by one
+-- the ledger's promises (01, The ledger behind demand 3), over the total of the roster (02, A11); `Promised` has them one
+-- by one
 abbrev pub Demand3 : Type 0
-Demand3 = FromEveryRoster (λ s. Promised total (recordsIn s (customersIn s)) [])
+Demand3 = FromEveryRoster (λ s. Promised (totalIn s) (recordsIn s (customersIn s)) [])
 
 abbrev pub Demand3From : Type 0
 Demand3From = FromEveryAgreement (λ t start. Promised (totalOf t) (roster t) start)
 
 -- what is claimed of one message from a table that agrees holds all along a run
 abbrev pub AgreesThroughout : Type 0
-AgreesThroughout = FromEveryRoster (λ s t h x. Agrees t (ledger total [] h))
+AgreesThroughout = FromEveryRoster (λ s t h x. Agrees t (ledger (totalIn s) [] h))
 
 abbrev pub AgreesFrom : Type 0
-AgreesFrom = FromEveryAgreement (λ first start t h x. Agrees t (ledger total start h))
+AgreesFrom = FromEveryAgreement (λ first start t h x. Agrees t (ledger (totalOf first) start h))
+
+-- any table, any message: the roster's form stays, and with it the total. A node that lets a customer of form 1 have what
+-- only form 2 has room for, once some message has come, is none
+abbrev pub FormStays : Type 0
+FormStays = (t : Table) (x : Input) → tableThen t x .form ≡ t .form
 
 -- the table rules hold after every message: a node that keeps two calls of one ID, or a connection twice, is none
 abbrev pub RulesAfter : Type 0

@@ -1,3 +1,5 @@
+pub mod Run
 pub mod TwoCustomers
+pub mod TwoHundred
 pub mod Replies
 pub mod PaddedNames

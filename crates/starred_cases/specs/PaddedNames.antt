@@ -1,13 +1,14 @@
 -- Padding is no part of a name (02, A1): rows on bytes, each on the table that the row before left.
 use Prim.Native.Nat.{ℕ}
 use mathlib.Core.Path.{_≡_}
-use mathlib.Core.List.{List, [], _∷_, _++_, map}
+use mathlib.Core.List.{List, [], _∷_, map}
 use mathlib.Core.Bool.{Bool, true, false}
 use lib.ListN.{replicate}
 use Rattle.table.specs.Table.{Table}
 use Rattle.table.specs.Roster.{rosterAnswer, tableFor}
 use Rattle.answers.specs.Answers.{answerNumber}
 use Rattle.spec_calls.specs.Handling.{Handled, handled}
+use Rattle.starred_cases.specs.Run.{StepTo}
 use Rattle.starred_cases.specs.TwoCustomers.{unchanged, buffer, notifyWith, X}
 
 -- an answer, the reply's length, and whether calls and connections are as they were
@@ -23,15 +24,15 @@ pub record PaddedCase : Type 0 where
 abbrev resultOf : Table → Handled → PaddedResult
 resultOf t h = record { answer = answerNumber (h .answer); length = h .length; equal = unchanged t (h .table) }
 
-abbrev thenRest : Table → Handled → (Table → List PaddedResult) → List PaddedResult
+abbrev pub thenRest : Table → Handled → (Table → List PaddedResult) → List PaddedResult
 thenRest t h rest = resultOf t h ∷ rest (h .table)
 
-abbrev resultsFrom : Table → List PaddedCase → List PaddedResult
-resultsFrom t [] = []
-resultsFrom t (c ∷ rest) = thenRest t (handled t (c .message) buffer) (λ u. resultsFrom u rest)
+abbrev pub resultsFrom : StepTo Handled → Table → List PaddedCase → List PaddedResult
+resultsFrom step t [] = []
+resultsFrom step t (c ∷ rest) = thenRest t (step t (c .message) buffer) (λ u. resultsFrom step u rest)
 
 -- X has guarantee 1 and limit 2
-abbrev rosterBytes : List ℕ
+abbrev pub rosterBytes : List ℕ
 rosterBytes = 0x11 ∷ 0x0a ∷ 0x00 ∷ 0x00 ∷ 0x02 ∷ 0x00 ∷ 0x00 ∷ 0x07 ∷ 0x0a ∷ 0x00 ∷ 0x00 ∷ 0x01 ∷ 0x02 ∷ 0x08 ∷ []
 
 -- X's request by its short ID, its Name Length and the bytes behind that
@@ -59,9 +60,9 @@ paddedCases =
     ∷ row (close 1 2 (0x61 ∷ 0 ∷ 0 ∷ 0 ∷ [])) 22 92 false
     ∷ []
 
-abbrev pub paddedResults : List PaddedResult
-paddedResults = resultsFrom (tableFor (rosterAnswer rosterBytes) rosterBytes) paddedCases
+abbrev pub paddedResults : StepTo Handled → List PaddedResult
+paddedResults step = resultsFrom step (tableFor (rosterAnswer rosterBytes) rosterBytes) paddedCases
 
 -- the definitions give what each row says
 abbrev pub PaddedHold : Type 0
-PaddedHold = paddedResults ≡ map (λ c. c .result) paddedCases
+PaddedHold = paddedResults handled ≡ map (λ c. c .result) paddedCases

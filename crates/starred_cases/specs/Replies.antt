@@ -5,10 +5,10 @@ use Prim.Native.Nat.{ℕ}
 use mathlib.Core.Path.{_≡_}
 use mathlib.Core.List.{List, [], _∷_, _++_, map}
 use lib.ListN.{replicate}
-use Rattle.table.specs.Table.{Table}
 use Rattle.table.specs.Roster.{rosterAnswer, tableFor}
 use Rattle.answers.specs.Answers.{answerNumber}
 use Rattle.spec_calls.specs.Handling.{Handled, handled}
+use Rattle.starred_cases.specs.Run.{StepTo, tableThrough}
 
 -- what a message is answered, the reply's length, and the whole buffer, where it held 132 bytes EE before
 pub record Replied : Type 0 where
@@ -16,10 +16,10 @@ pub record Replied : Type 0 where
   pub length : ℕ
   pub buffer : List ℕ
 
-abbrev repliedOf : Handled → Replied
+abbrev pub repliedOf : Handled → Replied
 repliedOf h = record { answer = answerNumber (h .answer); length = h .length; buffer = h .buffer }
 
-abbrev before : List ℕ
+abbrev pub before : List ℕ
 before = replicate 132 0xee
 
 -- a roster, the messages that come first, the message that is looked at, and what is to come of it
@@ -29,12 +29,8 @@ pub record ReplyCase : Type 0 where
   pub message : List ℕ
   pub expected : Replied
 
-abbrev tableThrough : Table → List (List ℕ) → Table
-tableThrough t [] = t
-tableThrough t (s ∷ l) = tableThrough (handled t s before .table) l
-
-abbrev pub replied : ReplyCase → Replied
-replied c = repliedOf (handled (tableThrough (tableFor (rosterAnswer (c .roster)) (c .roster)) (c .earlier)) (c .message) before)
+abbrev pub replied : StepTo Handled → ReplyCase → Replied
+replied step c = repliedOf (step (tableThrough step before (tableFor (rosterAnswer (c .roster)) (c .roster)) (c .earlier)) (c .message) before)
 
 -- ---- 01's Path, and the PathErr 32/3 that answers it
 
@@ -152,4 +148,4 @@ replyCases =
 
 -- the definitions give these bytes and no others
 abbrev pub RepliesHold : Type 0
-RepliesHold = map replied replyCases ≡ map (λ c. c .expected) replyCases
+RepliesHold = map (replied handled) replyCases ≡ map (λ c. c .expected) replyCases

@@ -3,14 +3,13 @@ use Prim.Native.Nat.{ℕ, zero, suc, _+_, _*_}
 use mathlib.Core.Path.{_≡_}
 use mathlib.Core.List.{List, [], _∷_, _++_, map}
 use mathlib.Core.Bool.{Bool, true, false, _&&_}
-use lib.Dec.{eqb}
 use lib.ListN.{length, replicate}
 use Rattle.numbers.specs.BigEndian.{bytes16, bytes32}
 use Rattle.lists.specs.Below.{below, everyBelow}
 use Rattle.reply_objects.specs.Buffer.{leastBuffer}
 use Rattle.table.specs.declared.answer.RosterAnswer.{RosterAnswer}
 use Rattle.table.specs.Table.{Call, Table}
-use Rattle.table.specs.Total.{totalOf}
+use Rattle.table.specs.Total.{slots}
 use Rattle.table.specs.Zeros.{emptyTable}
 use Rattle.table.specs.Lists.{customerAt, roster, callAt, entries, Four, callFour, customerFour, placeAt}
 use Rattle.table.specs.Share.{S}
@@ -18,6 +17,7 @@ use Rattle.table.specs.Rules.{sameBytes}
 use Rattle.table.specs.Roster.{rosterNumber, rosterAnswer, tableFor}
 use Rattle.answers.specs.Answers.{answerNumber}
 use Rattle.spec_calls.specs.Handling.{Handled, handled}
+use Rattle.starred_cases.specs.Run.{StepTo, tableThrough}
 
 -- ---- rows
 
@@ -50,8 +50,8 @@ callNumbers c = c .endpoint ∷ c .sender ∷ c .id ∷ c .size ∷ (c .name ++ 
 
 abbrev pub unchanged : Table → Table → Bool
 unchanged t u =
-    eqb (t .occupied) (u .occupied)
-    && everyBelow (λ i. sameBytes (callNumbers (callAt t i)) (callNumbers (callAt u i))) (totalOf t)
+    sameBytes (t .occupied) (u .occupied)
+    && everyBelow (λ i. sameBytes (callNumbers (callAt t i)) (callNumbers (callAt u i))) slots
     && everyBelow (λ k. sameBytes (fourNumbers (customerFour (customerAt t k))) (fourNumbers (customerFour (customerAt u k)))) 8
 
 -- ---- the run
@@ -59,11 +59,7 @@ unchanged t u =
 abbrev pub buffer : List ℕ
 buffer = replicate leastBuffer 0
 
-abbrev tableThrough : Table → List (List ℕ) → Table
-tableThrough t [] = t
-tableThrough t (s ∷ l) = tableThrough (handled t s buffer .table) l
-
-abbrev outcomeOf : ℕ → Table → Table → StarredResult
+abbrev pub outcomeOf : ℕ → Table → Table → StarredResult
 outcomeOf answer before after = record {
   answer = answer;
   sum = S (roster after) (entries after);
@@ -72,22 +68,22 @@ outcomeOf answer before after = record {
 }
 
 -- the outcome of a row, and what the rows behind it come to
-abbrev thenRows : Table → ℕ → Table → (Table → List StarredResult) → List StarredResult
+abbrev pub thenRows : Table → ℕ → Table → (Table → List StarredResult) → List StarredResult
 thenRows before answer after rest = outcomeOf answer before after ∷ rest after
 
 abbrev begun : Table → RosterAnswer → List ℕ → (Table → List StarredResult) → List StarredResult
 begun t answer bytes rest = thenRows t (rosterNumber answer) (tableFor answer bytes) rest
 
-abbrev asked : Table → Handled → (Table → List StarredResult) → List StarredResult
+abbrev pub asked : Table → Handled → (Table → List StarredResult) → List StarredResult
 asked t h rest = thenRows t (answerNumber (h .answer)) (h .table) rest
 
-abbrev askedOn : Table → List ℕ → (Table → List StarredResult) → List StarredResult
-askedOn t message rest = asked t (handled t message buffer) rest
+abbrev pub askedOn : StepTo Handled → Table → List ℕ → (Table → List StarredResult) → List StarredResult
+askedOn step t message rest = asked t (step t message buffer) rest
 
-abbrev pub outcomes : Table → List StarredCase → List StarredResult
-outcomes t [] = []
-outcomes t (begin bytes outcome ∷ rows) = begun t (rosterAnswer bytes) bytes (λ u. outcomes u rows)
-outcomes t (ask before message outcome ∷ rows) = askedOn (tableThrough t before) message (λ u. outcomes u rows)
+abbrev pub outcomes : StepTo Handled → Table → List StarredCase → List StarredResult
+outcomes step t [] = []
+outcomes step t (begin bytes outcome ∷ rows) = begun t (rosterAnswer bytes) bytes (λ u. outcomes step u rows)
+outcomes step t (ask before message outcome ∷ rows) = askedOn step (tableThrough step buffer t before) message (λ u. outcomes step u rows)
 
 -- ---- messages (01, Message layout), with no checksum sent
 
@@ -114,10 +110,10 @@ notifyWith status sender call attribute =
 abbrev notify : ℕ → ℕ → ℕ → ℕ → List ℕ
 notify status sender call name = notifyWith status sender call (7 ∷ 7 ∷ 0 ∷ 1 ∷ name ∷ 0 ∷ 0 ∷ 0 ∷ [])
 
-abbrev setup : ℕ → ℕ → ℕ → List ℕ
+abbrev pub setup : ℕ → ℕ → ℕ → List ℕ
 setup = notify 0x80000008
 
-abbrev close : ℕ → ℕ → ℕ → List ℕ
+abbrev pub close : ℕ → ℕ → ℕ → List ℕ
 close = notify 0x80000009
 
 abbrev path : ℕ → ℕ → List ℕ
@@ -131,23 +127,23 @@ pathTear sender call = message 5 (session call 1 ++ template sender 1)
 abbrev pub X : ℕ
 X = 0x0a000001
 
-abbrev Y : ℕ
+abbrev pub Y : ℕ
 Y = 0x0a000003
 
 -- a customer's record: address, guarantee 7 bits, limit 7 bits, 2 spare bits
 abbrev customer : ℕ → ℕ → ℕ → List ℕ
 customer address guarantee limit = bytes32 address ++ bytes16 (guarantee * 512 + limit * 4)
 
-abbrev rosterOf : ℕ → ℕ → ℕ → ℕ → List ℕ
+abbrev pub rosterOf : ℕ → ℕ → ℕ → ℕ → List ℕ
 rosterOf guaranteeX limitX guaranteeY limitY =
     (0x12 ∷ 0x0a ∷ 0 ∷ 0 ∷ 2 ∷ 0 ∷ 0 ∷ 7 ∷ []) ++ customer X guaranteeX limitX ++ customer Y guaranteeY limitY
 
 -- Y's calls with short IDs n down to 1
-abbrev callsOfY : ℕ → List (List ℕ)
+abbrev pub callsOfY : ℕ → List (List ℕ)
 callsOfY zero = []
 callsOfY (suc n) = setup Y (suc n) (suc n) ∷ callsOfY n
 
-abbrev after : ℕ → ℕ → ℕ → Bool → StarredResult
+abbrev pub after : ℕ → ℕ → ℕ → Bool → StarredResult
 after answer sum calls equal = record { answer = answer; sum = sum; calls = calls; equal = equal }
 
 unfoldable pub cases : List StarredCase
@@ -178,4 +174,4 @@ cases =
 
 -- the definitions give what 01 says of each row
 abbrev pub CasesHold : Type 0
-CasesHold = outcomes emptyTable cases ≡ map expected cases
+CasesHold = outcomes handled emptyTable cases ≡ map expected cases

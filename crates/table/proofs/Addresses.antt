@@ -5,7 +5,7 @@ use native.Mathlib.Omega.{arith}
 use mathlib.Core.Path.{_≡_, refl}
 use mathlib.Core.Logic.{_⊎_, inl, inr, ⊎-elim}
 use mathlib.Core.List.{List, []}
-use mathlib.Core.Bool.{Bool, true, false, cond, not, _&&_}
+use mathlib.Core.Bool.{Bool, true, false, cond, not, _&&_, _||_}
 use lib.Dec.{leb, ltb, eqb}
 use borrow.Author.Tests.{eqb-true, le-ltb}
 use Rattle.lists.specs.Count.{countIf, has, noTwo}
@@ -27,10 +27,10 @@ unfolding rosterHolds
 roster-cases t h = by (eqb (t .listed) 0) refl h
   where
     by : (b : Bool) → eqb (t .listed) 0 ≡ b
-        → cond b (eqb (t .address) 0 && eqb (t .epoch) 0) (leb (t .listed) 8 && ltb (t .epoch) 0x1000000 && acceptable (totalOf t) (roster t)) ≡ true
+        → cond b (eqb (t .form) 0 && eqb (t .address) 0 && eqb (t .epoch) 0) ((eqb (t .form) 1 || eqb (t .form) 2) && leb (t .listed) 8 && ltb (t .epoch) 0x1000000 && acceptable (totalOf t) (roster t)) ≡ true
         → (roster t ≡ []) ⊎ (acceptable (totalOf t) (roster t) ≡ true)
     by true e h = inl (no-roster t (eqb-true (t .listed) 0 e))
-    by false e h = inr (both (leb (t .listed) 8 && ltb (t .epoch) 0x1000000) (acceptable (totalOf t) (roster t)) h .1)
+    by false e h = inr (both ((eqb (t .form) 1 || eqb (t .form) 2) && leb (t .listed) 8 && ltb (t .epoch) 0x1000000) (acceptable (totalOf t) (roster t)) h .1)
 
 pub acceptable-apart : (total : ℕ) (r : List Terms) → acceptable total r ≡ true → (address : ℕ) → countIf (isAt address) r ≤ 1
 unfolding acceptable

@@ -1,18 +1,30 @@
 -- What a call, a customer and the table are goes by their words alone.
 -- Assumes nothing.
-use Prim.Native.Nat.{ℕ, _+_, _*_, _≤_, _<_}
+use Prim.Native.Nat.{ℕ, _+_, _*_, _^_, _≤_, _<_}
 use native.Mathlib.Omega.{arith}
-use mathlib.Core.Path.{_≡_, sym, ap}
+use mathlib.Core.Path.{_≡_, sym, ap, ap₂}
 use mathlib.Core.List.{List, [], _∷_}
-use lib.ListN.{getD, set}
-use Rattle.lists.proofs.Below.{below-ext, getD-each, set-each}
-use Rattle.table.specs.Total.{total}
+use lib.ListN.{length, getD, set, List·getD-eq-default}
+use Rattle.lists.proofs.Tests.{split}
+use Rattle.lists.proofs.Below.{below-ext, length-each, getD-each, set-each}
+use Rattle.table.specs.Total.{slots}
+use Rattle.table.specs.Word.{FourWords}
 use Rattle.table.specs.Lists.{callAt, customerAt}
-use Rattle.table.specs.Words.{bytesOf, nameAtWord, placeAtWord, placesAtWord, callAtWord, customerAtWord, customersOf, slotsOf, customerStart, callStart, tableOf}
+use Rattle.table.specs.Words.{bytesOf, nameAtWord, placeAtWord, placesAtWord, callAtWord, customerAtWord, customersOf, slotsOf, occupiedOf, customerStart, callStart, tableOf}
 
--- a slot's call, a record's customer and a four's place are those of their words
-pub call-at : (w : List ℕ) (i : ℕ) → i < total → callAt (tableOf w) i ≡ callAtWord w (callStart i)
-call-at w i h = getD-each (λ i. callAtWord w (callStart i)) total i _ h
+-- a slot's call, a record's customer, a four's place and 64 slots' marks are those of their words
+pub call-at : (w : List ℕ) (i : ℕ) → i < slots → callAt (tableOf w) i ≡ callAtWord w (callStart i)
+call-at w i h = getD-each (λ i. callAtWord w (callStart i)) slots i _ h
+
+pub used-at : (w : List ℕ) (k : ℕ) → k < 4 → getD (occupiedOf w) k 0 ≡ getD w (5 + 2 * k) 0 + getD w (6 + 2 * k) 0 * 4294967296
+used-at w k h = getD-each (λ k. getD w (5 + 2 * k) 0 + getD w (6 + 2 * k) 0 * 4294967296) 4 k 0 h
+
+pub used-long : (w : List ℕ) → length (occupiedOf w) ≡ 4
+used-long w = length-each (λ k. getD w (5 + 2 * k) 0 + getD w (6 + 2 * k) 0 * 4294967296) 4
+
+-- where each of the four words has 64 bits, they are a table's
+pub used-fit : (w : List ℕ) → ((k : ℕ) → k < 4 → getD (occupiedOf w) k 0 < 2 ^ 64) → FourWords (occupiedOf w)
+used-fit w h = record { four = used-long w; word = split 4 h (λ k l. rw (List·getD-eq-default (occupiedOf w) 0 {n = k} (omega (arith, used-long w))) (omega arith)) }
 
 pub customer-at : (w : List ℕ) (k : ℕ) → k < 8 → customerAt (tableOf w) k ≡ customerAtWord w (customerStart k)
 customer-at w k h = getD-each (λ k. customerAtWord w (customerStart k)) 8 k _ h
@@ -75,19 +87,23 @@ module _ (w v : List ℕ) (b e : ℕ) where
       rw (f b e 0 (omega arith) (omega arith) (omega arith), h 1 (omega arith), h 2 (omega arith), n, p)
 
 module _ (w v : List ℕ) where
-  pub customers-same : ((j : ℕ) → 6 ≤ j → j < 190 → getD v j 0 ≡ getD w j 0) → customersOf v ≡ customersOf w
+  pub occupied-same : ((j : ℕ) → 5 ≤ j → j < 13 → getD v j 0 ≡ getD w j 0) → occupiedOf v ≡ occupiedOf w
+  occupied-same h =
+      below-ext _ _ 4 (λ k l. ap₂ (λ (x y : ℕ). (x + y * 4294967296) ∷ []) (h (5 + 2 * k) (omega arith) (omega arith)) (h (6 + 2 * k) (omega arith) (omega arith)))
+
+  pub customers-same : ((j : ℕ) → 13 ≤ j → j < 197 → getD v j 0 ≡ getD w j 0) → customersOf v ≡ customersOf w
   customers-same h =
       below-ext _ _ 8 (λ k l. ap (λ x. x ∷ []) (customer-same v w (customerStart k) (customerStart k) (λ j m. h (customerStart k + j) (omega arith) (omega arith))))
 
-  pub calls-same : ((j : ℕ) → 190 ≤ j → getD v j 0 ≡ getD w j 0) → slotsOf v ≡ slotsOf w
+  pub calls-same : ((j : ℕ) → 197 ≤ j → getD v j 0 ≡ getD w j 0) → slotsOf v ≡ slotsOf w
   calls-same h =
-      below-ext _ _ total (λ i l. ap (λ x. x ∷ []) (call-same v w (callStart i) (callStart i) (λ j m. h (callStart i + j) (omega arith))))
+      below-ext _ _ slots (λ i l. ap (λ x. x ∷ []) (call-same v w (callStart i) (callStart i) (λ j m. h (callStart i + j) (omega arith))))
 
   -- one slot's words changed, one customer's
-  pub calls-set : (i : ℕ) → i < total → ((j : ℕ) → (callStart i ≤ j → j < callStart i + 32 → ⊥) → getD v j 0 ≡ getD w j 0)
+  pub calls-set : (i : ℕ) → i < slots → ((j : ℕ) → (callStart i ≤ j → j < callStart i + 32 → ⊥) → getD v j 0 ≡ getD w j 0)
       → slotsOf v ≡ set (slotsOf w) i (callAtWord v (callStart i))
   calls-set i l h =
-      sym (set-each (λ i. callAtWord w (callStart i)) (λ i. callAtWord v (callStart i)) total i l
+      sym (set-each (λ i. callAtWord w (callStart i)) (λ i. callAtWord v (callStart i)) slots i l
       (λ j n. call-same w v (callStart j) (callStart j) (λ k m. sym (h (callStart j + k) (λ p q. n (omega arith))))))
 
   pub customers-set : (i : ℕ) → i < 8 → ((j : ℕ) → (customerStart i ≤ j → j < customerStart i + 23 → ⊥) → getD v j 0 ≡ getD w j 0)

@@ -4,13 +4,14 @@
 use Prim.Native.Nat.{ℕ}
 use mathlib.Core.Path.{_≡_, refl}
 use mathlib.Core.List.{List, [], _∷_, _++_, map}
-use mathlib.Core.Bool.{Bool, true, false}
+use mathlib.Core.Bool.{true, false}
 use Rattle.lists.specs.Below.{below}
-use Rattle.table.specs.Table.{Call, Customer}
+use Rattle.table.specs.Word.{isUsed}
 use Rattle.table.specs.Lists.{Ids, Lsp}
+use Rattle.table.specs.Zeros.{noCustomer}
 use Rattle.table.specs.Rules.{badShare, sameBytes, sameShort, sameLong, sameLsp}
-use Rattle.table.specs.Roster.{rosterNumber, badForm, recordsAnswer, rosterAnswer, customersFrom, freshTable}
-use Rattle.table.specs.Words.{customerStart, callStart, callAtWord, customerAtWord, tableOf}
+use Rattle.table.specs.Roster.{rosterNumber, guaranteeIn, limitIn, spareIn, badForm, recordsAnswer, rosterAnswer, customersFrom, freshTable}
+use Rattle.table.specs.Words.{customerStart, callStart, wordCount, callAtWord, customerAtWord, tableOf}
 
 -- ---- rosters
 
@@ -34,8 +35,26 @@ pub rosters : map answered
     ∷ rosterWith 0x12 (customer 1 0x02 0x08 ++ customer 1 0x02 0x08)
     ∷ rosterWith 0x12 (customer 1 0x7d 0x00 ++ customer 3 0x05 0x00) ∷ rosterWith 0x12 (customer 1 0x7d 0x00 ++ customer 3 0x07 0x00) ∷ [])
     ≡ 0 ∷ 43 ∷ 43 ∷ 44 ∷ 44 ∷ 44 ∷ 45 ∷ 0 ∷ 46 ∷ []
-unfolding rosterAnswer badForm recordsAnswer badShare below
+unfolding rosterAnswer badForm recordsAnswer badShare guaranteeIn limitIn spareIn below
 rosters = refl
+
+-- form 2: one customer with 200 and 200; limit 201; guarantees of 100 and 100, of 100 and 101; the bits that are spare in
+-- form 1; guarantee 3 over limit 2; limit 0. Form 1 with limit 65. Forms 0 and 3.
+pub forms : map answered
+    (rosterWith 0x21 (customer 1 200 200) ∷ rosterWith 0x21 (customer 1 0 201)
+    ∷ rosterWith 0x22 (customer 1 100 200 ++ customer 3 100 200) ∷ rosterWith 0x22 (customer 1 100 200 ++ customer 3 101 200)
+    ∷ rosterWith 0x21 (customer 1 2 3) ∷ rosterWith 0x21 (customer 1 3 2) ∷ rosterWith 0x21 (customer 1 0 0)
+    ∷ rosterWith 0x11 (customer 1 0x03 0x04) ∷ rosterWith 0x01 (customer 1 0x02 0x08) ∷ rosterWith 0x31 (customer 1 0x02 0x08) ∷ [])
+    ≡ 0 ∷ 44 ∷ 0 ∷ 46 ∷ 0 ∷ 44 ∷ 44 ∷ 44 ∷ 41 ∷ 41 ∷ []
+unfolding rosterAnswer badForm recordsAnswer badShare guaranteeIn limitIn spareIn below
+forms = refl
+
+-- what a form 2 table is read as: its form, and a customer with guarantee 2 and limit 199
+pub form-2 : freshTable (rosterWith 0x21 (customer 1 2 199)) .form ∷ map (λ c. c .address) (freshTable (rosterWith 0x21 (customer 1 2 199)) .customers)
+    ++ map (λ c. c .guarantee) (freshTable (rosterWith 0x21 (customer 1 2 199)) .customers) ++ map (λ c. c .limit) (freshTable (rosterWith 0x21 (customer 1 2 199)) .customers)
+    ≡ 2 ∷ 0x0a000001 ∷ 0 ∷ 0 ∷ 0 ∷ 0 ∷ 0 ∷ 0 ∷ 0 ∷ 2 ∷ 0 ∷ 0 ∷ 0 ∷ 0 ∷ 0 ∷ 0 ∷ 0 ∷ 199 ∷ 0 ∷ 0 ∷ 0 ∷ 0 ∷ 0 ∷ 0 ∷ 0 ∷ []
+unfolding freshTable customersFrom guaranteeIn limitIn noCustomer below
+form-2 = refl
 
 -- ---- calls and connections: the same, then one thing different in each
 
@@ -70,16 +89,22 @@ connections = refl
 
 -- ---- words
 
--- the head: slots 0 and 33 are used
+-- the head: slots 0, 33, 64, 100, 191 and 199 are used
 abbrev head : List ℕ
-head = 10 ∷ 11 ∷ 12 ∷ 13 ∷ 1 ∷ 2 ∷ []
+head = 10 ∷ 11 ∷ 12 ∷ 13 ∷ 14 ∷ 1 ∷ 2 ∷ 1 ∷ 16 ∷ 0 ∷ 0x80000000 ∷ 0x80 ∷ 0 ∷ []
 
-pub head-words : tableOf head .address ∷ tableOf head .epoch ∷ tableOf head .next ∷ tableOf head .listed ∷ tableOf head .occupied ∷ []
-    ≡ 10 ∷ 11 ∷ 12 ∷ 13 ∷ 0x200000001 ∷ []
+pub head-words : tableOf head .address ∷ tableOf head .epoch ∷ tableOf head .next ∷ tableOf head .listed ∷ tableOf head .form ∷ tableOf head .occupied
+    ≡ 10 ∷ 11 ∷ 12 ∷ 13 ∷ 14 ∷ 0x200000001 ∷ 0x1000000001 ∷ 0x8000000000000000 ∷ 0x80 ∷ []
+unfolding below
 head-words = refl
 
-pub starts : customerStart 0 ∷ customerStart 1 ∷ customerStart 7 ∷ callStart 0 ∷ callStart 1 ∷ callStart 63 ∷ []
-    ≡ 6 ∷ 29 ∷ 167 ∷ 190 ∷ 222 ∷ 2206 ∷ []
+pub head-slots : map (isUsed (tableOf head .occupied)) (0 ∷ 1 ∷ 33 ∷ 64 ∷ 99 ∷ 100 ∷ 191 ∷ 192 ∷ 199 ∷ 200 ∷ [])
+    ≡ true ∷ false ∷ true ∷ true ∷ false ∷ true ∷ true ∷ false ∷ true ∷ false ∷ []
+unfolding below isUsed
+head-slots = refl
+
+pub starts : customerStart 0 ∷ customerStart 1 ∷ customerStart 7 ∷ callStart 0 ∷ callStart 1 ∷ callStart 199 ∷ wordCount ∷ []
+    ≡ 13 ∷ 36 ∷ 174 ∷ 197 ∷ 229 ∷ 6565 ∷ 6597 ∷ []
 starts = refl
 
 -- each word is the number of its place; but for word 8, which has four bytes of its own, the low one 41

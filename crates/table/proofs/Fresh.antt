@@ -1,15 +1,15 @@
 -- Every table rule holds on the table of an accepted roster, and on the empty one.
 -- Assumes nothing.
-use Prim.Native.Nat.{ℕ, zero, suc, max, _+_, _*_, _≤_, _<_}
-use native.Mathlib.Nat.{zero-add, zero-div, zero-max}
+use Prim.Native.Nat.{ℕ, zero, suc, max, _+_, _*_, _/_, _≤_, _<_}
+use native.Mathlib.Nat.{zero-add, zero-max}
 use native.Mathlib.Omega.{arith}
 use mathlib.Core.Path.{_≡_, refl, sym, _∙_}
 use mathlib.Core.List.{List, [], _∷_}
 use mathlib.Core.Bool.{Bool, true, false, cond, not, _||_}
 use lib.Dec.{ltb, eqb}
-use lib.ListN.{length, replicate, getD-replicate}
-use borrow.Author.Tests.{eqb-false, ne-eqb, ltb-false, lt-ltb, le-ltb, le-leb}
-use Rattle.numbers.specs.BigEndian.{Bytes, be24At, be32At}
+use lib.ListN.{length, getD, replicate, getD-replicate}
+use borrow.Author.Tests.{eqb-false, ne-eqb, ltb-false, not-false, lt-ltb, le-ltb, le-leb}
+use Rattle.numbers.specs.BigEndian.{be24At, be32At}
 use Rattle.numbers.specs.Search.{zerosAt}
 use Rattle.numbers.proofs.BigEndian.{be24-bound}
 use Rattle.lists.specs.Count.{has, noTwo}
@@ -21,25 +21,31 @@ use Rattle.lists.proofs.Tests.{eqb-swap}
 use Rattle.table.specs.declared.answer.RosterAnswer.{RosterAnswer}
 use Rattle.table.specs.declared.answer.RosterAnswer.the-variants.{Accepted, Short, BadForm, Length, SpareBits, Share, Repeated, Guarantees}
 use Rattle.table.specs.Table.{Table}
-use Rattle.table.specs.Total.{total}
-use Rattle.table.specs.Word.{isUsed}
+use Rattle.table.specs.Total.{slots, totalFor}
+use Rattle.table.specs.Word.{bits, isUsed}
 use Rattle.table.specs.Zeros.{noCall, noCustomer, emptyTable, pastCall, pastCustomer}
 use Rattle.table.specs.Lists.{Terms, customerAt, termsOf, listedAt, roster, openAt, entries, heldAt, customerFour, heldIn, standaloneAt, held}
 use Rattle.table.specs.Share.{isAt, S}
-use Rattle.table.specs.Rules.{badShare, sameAddress, guarantees, acceptable, rosterHolds, overLimit, placeClear, placeValid, callClear, customerFreeClear, customerClear, slotFreeClear, recordFreeClear, withinLimits, shareWithinTotal, namesAndIds, holds, rulesHold}
-use Rattle.table.specs.Roster.{rosterNumber, formIn, customersIn, termsIn, spareIn, recordsIn, badForm, recordsAnswer, rosterAnswer, customerIn, customersFrom, freshTable}
+use Rattle.table.specs.Rules.{badShare, sameAddress, guarantees, acceptable, rosterHolds, overLimit, placeClear, placeValid, callClear, customerFreeClear, customerClear, slotFreeClear, recordFreeClear, slotsWithinTotal, withinLimits, shareWithinTotal, namesAndIds, holds, rulesHold}
+use Rattle.table.specs.Roster.{rosterNumber, formIn, customersIn, totalIn, sharesIn, termsIn, spareIn, recordsIn, badForm, recordsAnswer, rosterAnswer, customerIn, customersFrom, freshTable}
+use Rattle.table.proofs.Slots.{none-used}
 use Rattle.table.specs.Claims.{FreshHolds, EmptyHolds}
 
 -- ---- a table with no calls and no connections
 
-all-free : (i : ℕ) → isUsed 0 i ≡ false
-all-free i = rw zero-div
+pub zero-at : (n i : ℕ) → getD {A = ℕ} (replicate n 0) i 0 ≡ 0
+zero-at zero i = refl
+zero-at (suc n) zero = refl
+zero-at (suc n) (suc i) = zero-at n i
+
+pub all-free : (i : ℕ) → isUsed (replicate 4 0) i ≡ false
+all-free i = none-used (replicate 4 0) i (zero-at 4 (i / 64))
 
 pub free-clear : callClear noCall ≡ true
 unfolding noCall callClear zerosAt everyBelow placeClear
 free-clear = refl
 
-module _ (address epoch : ℕ) (s : List ℕ) (n : ℕ) where
+module _ (address epoch form : ℕ) (s : List ℕ) (n : ℕ) where
   -- the first n records of s are listed
   abbrev idle : Table
   idle = record {
@@ -47,9 +53,10 @@ module _ (address epoch : ℕ) (s : List ℕ) (n : ℕ) where
     epoch = epoch;
     next = 1;
     listed = n;
-    occupied = 0;
+    form = form;
+    occupied = replicate 4 0;
     customers = customersFrom s n;
-    calls = replicate total noCall;
+    calls = replicate slots noCall;
   }
 
   customer-at : (k : ℕ) → k < 8 → customerAt idle k ≡ cond (ltb k n) (customerIn s k) noCustomer
@@ -69,7 +76,7 @@ module _ (address epoch : ℕ) (s : List ℕ) (n : ℕ) where
 
   no-entries : entries idle ≡ []
   unfolding elementIf
-  no-entries = below-nothing (openAt idle) 64 (λ i h. rw (all-free i))
+  no-entries = below-nothing (openAt idle) slots (λ i h. rw (all-free i))
 
   none-under-calls : (i : ℕ) → heldAt idle i ≡ []
   unfolding listIf
@@ -84,7 +91,7 @@ module _ (address epoch : ℕ) (s : List ℕ) (n : ℕ) where
       by false = refl
 
   none-held : held idle ≡ []
-  none-held = rw (below-nothing (heldAt idle) 64 (λ i h. none-under-calls i), below-nothing (standaloneAt idle) 8 none-standalone)
+  none-held = rw (below-nothing (heldAt idle) slots (λ i h. none-under-calls i), below-nothing (standaloneAt idle) 8 none-standalone)
 
   -- the rules, but for that of the roster itself
 
@@ -92,17 +99,20 @@ module _ (address epoch : ℕ) (s : List ℕ) (n : ℕ) where
   within-limits = rw (no-entries, has-nothing (overLimit []) (roster idle) (λ c. le-ltb (c .limit) 0 (omega arith)))
 
   -- S is the sum of the guarantees
-  within-total : n ≤ 8 → guarantees (recordsIn s n) ≤ 64 → holds shareWithinTotal idle ≡ true
+  within-total : n ≤ 8 → guarantees (recordsIn s n) ≤ totalFor form → holds shareWithinTotal idle ≡ true
   unfolding S
   within-total few g =
       rw (no-entries, roster-is few, sum-ext (λ c. max 0 (c .guarantee)) (λ c. c .guarantee) (recordsIn s n) (λ c. zero-max (c .guarantee)))
-      (le-leb (guarantees (recordsIn s n)) 64 g)
+      (le-leb (guarantees (recordsIn s n)) (totalFor form) g)
+
+  slots-within : holds slotsWithinTotal idle ≡ true
+  slots-within = every-within _ bits (λ i h. rw (all-free i))
 
   valid-ids : holds namesAndIds idle ≡ true
-  valid-ids = every-within _ 64 (λ i h. rw (all-free i))
+  valid-ids = every-within _ slots (λ i h. rw (all-free i))
 
-  slot-free-clear : (i : ℕ) → i < 64 → slotFreeClear idle i ≡ true
-  slot-free-clear i h = rw (all-free i, getD-replicate 64 i noCall pastCall h) free-clear
+  slot-free-clear : (i : ℕ) → i < slots → slotFreeClear idle i ≡ true
+  slot-free-clear i h = rw (all-free i, getD-replicate slots i noCall pastCall h) free-clear
 
   record-free-clear : (k : ℕ) → k < 8 → recordFreeClear idle k ≡ true
   unfolding noCustomer customerFreeClear customerClear everyBelow placeClear placeValid
@@ -112,15 +122,15 @@ module _ (address epoch : ℕ) (s : List ℕ) (n : ℕ) where
       by true = refl
       by false = refl
 
-  idle-holds : n ≤ 8 → guarantees (recordsIn s n) ≤ 64 → rosterHolds idle ≡ true → rulesHold idle ≡ true
+  idle-holds : n ≤ 8 → guarantees (recordsIn s n) ≤ totalFor form → rosterHolds idle ≡ true → rulesHold idle ≡ true
   unfolding rulesHold
   idle-holds few g r =
-      rw (r, within-limits, within-total few g, valid-ids, every-within (slotFreeClear idle) 64 slot-free-clear, every-within (recordFreeClear idle) 8 record-free-clear, no-entries, none-held)
+      rw (r, slots-within, within-limits, within-total few g, valid-ids, every-within (slotFreeClear idle) slots slot-free-clear, every-within (recordFreeClear idle) 8 record-free-clear, no-entries, none-held)
 
 -- the empty table lists no records
 pub empty-holds : EmptyHolds
 unfolding emptyTable customersFrom below rosterHolds
-empty-holds = idle-holds 0 0 [] 0 (omega arith) (omega arith) refl
+empty-holds = idle-holds 0 0 0 [] 0 (omega arith) (omega arith) refl
 
 -- ---- what an accepted roster has passed
 
@@ -137,14 +147,21 @@ neither false b h = (refl, h)
 pub good-count : (s : List ℕ) → badForm s ≡ false → (0 < customersIn s) × (customersIn s ≤ 8)
 unfolding badForm
 good-count s h =
-    let m = neither (not (eqb (formIn s) 1) || eqb (customersIn s) 0) (ltb 8 (customersIn s)) h in
-    let z = neither (not (eqb (formIn s) 1)) (eqb (customersIn s) 0) (m .0) in
+    let m = neither (not (eqb (formIn s) 1 || eqb (formIn s) 2) || eqb (customersIn s) 0) (ltb 8 (customersIn s)) h in
+    let z = neither (not (eqb (formIn s) 1 || eqb (formIn s) 2)) (eqb (customersIn s) 0) (m .0) in
     (omega (arith, eqb-false (customersIn s) 0 (z .1)), ltb-false 8 (customersIn s) (m .1))
 
-one-more-good : (s : List ℕ) (k : ℕ) → has (badShare total) (recordsIn s k) ≡ false → badShare total (termsIn s k) ≡ false
-    → has (badShare total) (recordsIn s (k + 1)) ≡ false
+-- and is form 1 or 2
+good-form : (s : List ℕ) → badForm s ≡ false → (eqb (formIn s) 1 || eqb (formIn s) 2) ≡ true
+unfolding badForm
+good-form s h =
+    let m = neither (not (eqb (formIn s) 1 || eqb (formIn s) 2) || eqb (customersIn s) 0) (ltb 8 (customersIn s)) h in
+    not-false (eqb (formIn s) 1 || eqb (formIn s) 2) (neither (not (eqb (formIn s) 1 || eqb (formIn s) 2)) (eqb (customersIn s) 0) (m .0) .0)
+
+one-more-good : (s : List ℕ) (k : ℕ) → has (badShare (totalIn s)) (recordsIn s k) ≡ false → badShare (totalIn s) (termsIn s k) ≡ false
+    → has (badShare (totalIn s)) (recordsIn s (k + 1)) ≡ false
 unfolding elementIf
-one-more-good s k h b = sym (has-turn (λ j. termsIn s j ∷ []) (badShare total) k false false true (termsIn s k) refl (sym h) (sym b))
+one-more-good s k h b = sym (has-turn (λ j. termsIn s j ∷ []) (badShare (totalIn s)) k false false true (termsIn s k) refl (sym h) (sym b))
 
 one-more-apart : (s : List ℕ) (k : ℕ) → noTwo sameAddress (recordsIn s k) ≡ true → has (isAt (be32At s (8 + 6 * k))) (recordsIn s k) ≡ false
     → noTwo sameAddress (recordsIn s (k + 1)) ≡ true
@@ -153,27 +170,27 @@ one-more-apart s k h d =
     let x = termsIn s k in
     rw (below-more (λ j. termsIn s j ∷ []) k, no-two-append sameAddress r (x ∷ []), meet-element sameAddress r x (isAt (x .address)) (λ c. eqb-swap (c .address) (x .address)), h, d)
 
-record Good (r : List Terms) : Type 0 where
+record Good (total : ℕ) (r : List Terms) : Type 0 where
   pub shares : has (badShare total) r ≡ false
   pub apart : noTwo sameAddress r ≡ true
   pub sum : guarantees r ≤ total
 
-records-good : (s : List ℕ) (k left n : ℕ) → k + left ≡ n → has (badShare total) (recordsIn s k) ≡ false → noTwo sameAddress (recordsIn s k) ≡ true
-    → recordsAnswer s k left ≡ Accepted → Good (recordsIn s n)
+records-good : (s : List ℕ) (k left n : ℕ) → k + left ≡ n → has (badShare (totalIn s)) (recordsIn s k) ≡ false → noTwo sameAddress (recordsIn s k) ≡ true
+    → recordsAnswer s k left ≡ Accepted → Good (totalIn s) (recordsIn s n)
 unfolding recordsAnswer
 records-good s k zero n e g a h =
     let q : n ≡ k = omega arith in
-    let o = passed (ltb total (guarantees (recordsIn s k))) Guarantees Accepted refl h in
-    rw q (record { shares = g; apart = a; sum = ltb-false total (guarantees (recordsIn s k)) (o .0) })
+    let o = passed (ltb (totalIn s) (guarantees (recordsIn s k))) Guarantees Accepted refl h in
+    rw q (record { shares = g; apart = a; sum = ltb-false (totalIn s) (guarantees (recordsIn s k)) (o .0) })
 records-good s k (suc left) n e g a h =
-    let o = passed (not (eqb (spareIn s k) 0)) SpareBits _ refl h in
-    let b = passed (badShare total (termsIn s k)) Share _ refl (o .1) in
+    let o = passed (not (eqb (spareIn (formIn s) (sharesIn s k)) 0)) SpareBits _ refl h in
+    let b = passed (badShare (totalIn s) (termsIn s k)) Share _ refl (o .1) in
     let d = passed (has (isAt (be32At s (8 + 6 * k))) (recordsIn s k)) Repeated _ refl (b .1) in
     records-good s (k + 1) left n (omega arith) (one-more-good s k g (b .0)) (one-more-apart s k a (d .0)) (d .1)
 
-good-acceptable : (r : List Terms) → Good r → acceptable total r ≡ true
+good-acceptable : (total : ℕ) (r : List Terms) → Good total r → acceptable total r ≡ true
 unfolding acceptable
-good-acceptable r g = rw (g .shares, g .apart, le-leb (guarantees r) total (g .sum))
+good-acceptable total r g = rw (g .shares, g .apart, le-leb (guarantees r) total (g .sum))
 
 pub fresh-holds : FreshHolds
 unfolding rosterAnswer freshTable rosterHolds below
@@ -184,8 +201,8 @@ fresh-holds s bytes h =
     let l = passed (not (eqb (length s) (8 + 6 * n))) Length _ refl (f .1) in
     let c = good-count s (f .0) in
     let g = records-good s 0 n n (zero-add n) refl refl (l .1) in
-    idle-holds (be32At s 1) (be24At s 5) s n (c .1) (g .sum)
-    (rw (ne-eqb n 0 (omega arith), le-leb n 8 (c .1), lt-ltb (be24At s 5) 0x1000000 (be24-bound s 5 bytes), roster-is (be32At s 1) (be24At s 5) s n (c .1)) (good-acceptable (recordsIn s n) g))
+    idle-holds (be32At s 1) (be24At s 5) (formIn s) s n (c .1) (g .sum)
+    (rw (ne-eqb n 0 (omega arith), good-form s (f .0), le-leb n 8 (c .1), lt-ltb (be24At s 5) 0x1000000 (be24-bound s 5 bytes), roster-is (be32At s 1) (be24At s 5) (formIn s) s n (c .1)) (good-acceptable (totalIn s) (recordsIn s n) g))
 
 -- ---- what the table of an accepted roster shows: the roster as read, no calls, no connections
 
@@ -194,12 +211,12 @@ unfolding rosterAnswer freshTable
 fresh-roster s h =
     let o = passed (ltb (length s) 8) Short _ refl h in
     let f = passed (badForm s) BadForm _ refl (o .1) in
-    roster-is (be32At s 1) (be24At s 5) s (customersIn s) (good-count s (f .0) .1)
+    roster-is (be32At s 1) (be24At s 5) (formIn s) s (customersIn s) (good-count s (f .0) .1)
 
 pub fresh-entries : (s : List ℕ) → entries (freshTable s) ≡ []
 unfolding freshTable
-fresh-entries s = no-entries (be32At s 1) (be24At s 5) s (customersIn s)
+fresh-entries s = no-entries (be32At s 1) (be24At s 5) (formIn s) s (customersIn s)
 
 pub fresh-held : (s : List ℕ) → held (freshTable s) ≡ []
 unfolding freshTable
-fresh-held s = none-held (be32At s 1) (be24At s 5) s (customersIn s)
+fresh-held s = none-held (be32At s 1) (be24At s 5) (formIn s) s (customersIn s)

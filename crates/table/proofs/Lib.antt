@@ -1,6 +1,8 @@
 pub mod Ones
 pub mod SameBytes
+pub mod OneWord
 pub mod Slots
+pub mod Within
 pub mod Addresses
 pub mod Fresh
 pub mod Cells

@@ -4,13 +4,11 @@ use Prim.Native.Nat.{ℕ, zero, suc, _+_, _*_, _-_, _/_, _%_, _≤_, _<_}
 use native.Mathlib.Omega.{arith}
 use mathlib.Core.Path.{_≡_, refl, sym, ap, _∙_}
 use mathlib.Core.List.{List, [], _∷_}
-use mathlib.Core.Bool.{Bool, true, false}
-use lib.Dec.{ltb}
 use lib.ListN.{length, getD}
 use lib.Seq.{ext-getD}
-use borrow.Author.Tests.{ltb-true, ltb-false}
 use Rattle.lists.specs.Below.{below}
-use Rattle.table.specs.Total.{total}
+use Rattle.lists.proofs.Tests.{split}
+use Rattle.table.specs.Total.{slots}
 use Rattle.table.specs.Words.{placeAtWord, placesAtWord, callAtWord, customerAtWord, customerStart, callStart, tableOf, wordCount}
 use Rattle.table.specs.Claims.{WordsTold}
 use Rattle.table.proofs.Names.{cells-told, name-told}
@@ -22,14 +20,6 @@ four P a b c d (suc zero) h = b
 four P a b c d (suc (suc zero)) h = c
 four P a b c d (suc (suc (suc zero))) h = d
 four P a b c d (suc (suc (suc (suc k)))) h = absurd (omega arith)
-
--- below a bound, or so many past it
-split {ℓ} : {P : ℕ → Type ℓ} (n : ℕ) → ((k : ℕ) → k < n → P k) → ((k : ℕ) → n ≤ k → P k) → (k : ℕ) → P k
-split {P = P} n f g k = go (ltb k n) refl
-  where
-    go : (s : Bool) → ltb k n ≡ s → P k
-    go true e = f k (ltb-true k n e)
-    go false e = g k (ltb-false k n e)
 
 -- one of n cells of one size, and a word of it
 cell : (f g : ℕ → ℕ) (n : ℕ) → below (λ j. f j ∷ []) n ≡ below (λ j. g j ∷ []) n → (j : ℕ) → j < n → f j ≡ g j
@@ -92,37 +82,48 @@ module _ (w v : List ℕ) where
         (cell (λ j. getD w (b + 3 + j) 0) (λ j. getD v (b + 3 + j) 0) 4 (ap (λ c. c .endpoints) e) (k - 3) (omega arith)))
         (λ k l n h. moved (b + 7 + (k - 7)) (b + k) (omega arith) (places-told (b + 7) (ap (λ c. c .places) e) (k - 7) (omega arith))) k n) k h
 
-  module _ (lw : getD w 4 0 < 4294967296) (lv : getD v 4 0 < 4294967296) (e : tableOf w ≡ tableOf v) where
-    both : getD w 4 0 + getD w 5 0 * 4294967296 ≡ getD v 4 0 + getD v 5 0 * 4294967296
-    both = ap (λ t. t .occupied) e
+  module _ (lw : (i : ℕ) → getD w i 0 < 4294967296) (lv : (i : ℕ) → getD v i 0 < 4294967296) (e : tableOf w ≡ tableOf v) where
+    -- two words that are one of 64 bits
+    occupied-told : (j : ℕ) → j < 8 → Same (5 + j)
+    occupied-told j h =
+        let k = j / 2 in
+        let p : getD w (5 + 2 * k) 0 + getD w (6 + 2 * k) 0 * 4294967296 ≡ getD v (5 + 2 * k) 0 + getD v (6 + 2 * k) 0 * 4294967296 =
+        cell (λ k. getD w (5 + 2 * k) 0 + getD w (6 + 2 * k) 0 * 4294967296) (λ k. getD v (5 + 2 * k) 0 + getD v (6 + 2 * k) 0 * 4294967296) 4 (ap (λ t. t .occupied) e) k (omega arith) in
+        let low : Same (5 + 2 * k) = omega (arith, p, lw (5 + 2 * k), lv (5 + 2 * k)) in
+        let high : Same (6 + 2 * k) = omega (arith, p, lw (5 + 2 * k), lv (5 + 2 * k)) in
+        split {P = λ r. j % 2 ≡ r → r < 2 → Same (5 + j)} 1
+        (λ r a q b. moved (5 + 2 * k) (5 + j) (omega arith) low)
+        (λ r a q b. moved (6 + 2 * k) (5 + j) (omega arith) high)
+        (j % 2) refl (omega arith)
+
+    customers-told : (k : ℕ) → 13 ≤ k → k < 197 → Same k
+    customers-told k g h =
+        let j = (k - 13) / 23 in
+        let p : customerAtWord w (customerStart j) ≡ customerAtWord v (customerStart j) =
+        ap (λ l. getD l 0 (customerAtWord w 0))
+        (cells-told (λ j. customerAtWord w (customerStart j) ∷ []) (λ j. customerAtWord v (customerStart j) ∷ []) 1 (λ i. refl) (λ i. refl) 8 (ap (λ t. t .customers) e) j (omega arith)) in
+        moved (customerStart j + (k - 13) % 23) k (omega arith) (customer-told (customerStart j) p ((k - 13) % 23) (omega arith))
+
+    calls-told : (k : ℕ) → 197 ≤ k → k < wordCount → Same k
+    calls-told k g h =
+        let j = (k - 197) / 32 in
+        let p : callAtWord w (callStart j) ≡ callAtWord v (callStart j) =
+        ap (λ l. getD l 0 (callAtWord w 0))
+        (cells-told (λ j. callAtWord w (callStart j) ∷ []) (λ j. callAtWord v (callStart j) ∷ []) 1 (λ i. refl) (λ i. refl) slots (ap (λ t. t .calls) e) j (omega arith)) in
+        moved (callStart j + (k - 197) % 32) k (omega arith) (call-told (callStart j) p ((k - 197) % 32) (omega arith))
 
     word-told : (k : ℕ) → k < wordCount → Same k
     word-told k h =
         split {P = λ k. k < wordCount → Same k} 4
         (λ k l h. four Same (ap (λ t. t .address) e) (ap (λ t. t .epoch) e) (ap (λ t. t .next) e) (ap (λ t. t .listed) e) k l)
-        (λ k g. split {P = λ k. 4 ≤ k → k < wordCount → Same k} 6
-        (λ k l g h. moved (4 + (k - 4)) k (omega arith) (four (λ k. k < 2 → Same (4 + k))
-        (λ z. omega (arith, both))
-        (λ z. omega (arith, both))
-        (λ z. absurd (omega arith))
-        (λ z. absurd (omega arith)) (k - 4) (omega arith) (omega arith)))
-        (λ k m g. split {P = λ k. 6 ≤ k → k < wordCount → Same k} 190
-        (λ k l m h.
-        let j = (k - 6) / 23 in
-        let p : customerAtWord w (customerStart j) ≡ customerAtWord v (customerStart j) =
-        ap (λ l. getD l 0 (customerAtWord w 0))
-        (cells-told (λ j. customerAtWord w (customerStart j) ∷ []) (λ j. customerAtWord v (customerStart j) ∷ []) 1 (λ i. refl) (λ i. refl) 8 (ap (λ t. t .customers) e) j (omega arith)) in
-        moved (customerStart j + (k - 6) % 23) k (omega arith) (customer-told (customerStart j) p ((k - 6) % 23) (omega arith)))
-        (λ k n m h.
-        let j = (k - 190) / 32 in
-        let p : callAtWord w (callStart j) ≡ callAtWord v (callStart j) =
-        ap (λ l. getD l 0 (callAtWord w 0))
-        (cells-told (λ j. callAtWord w (callStart j) ∷ []) (λ j. callAtWord v (callStart j) ∷ []) 1 (λ i. refl) (λ i. refl) total (ap (λ t. t .calls) e) j (omega arith)) in
-        moved (callStart j + (k - 190) % 32) k (omega arith) (call-told (callStart j) p ((k - 190) % 32) (omega arith))) k m) k g) k h
+        (λ k g. split {P = λ k. 4 ≤ k → k < wordCount → Same k} 5
+        (λ k l g h. moved 4 k (omega arith) (ap (λ t. t .form) e))
+        (λ k f g. split {P = λ k. 5 ≤ k → k < wordCount → Same k} 13
+        (λ k l f h. moved (5 + (k - 5)) k (omega arith) (occupied-told (k - 5) (omega arith)))
+        (λ k m f. split {P = λ k. 13 ≤ k → k < wordCount → Same k} 197 (λ k l m h. customers-told k m l) (λ k n m h. calls-told k n h) k m) k f) k g) k h
 
     told : length w ≡ wordCount → length v ≡ wordCount → w ≡ v
     told n m = ext-getD 0 w v (n ∙ sym m) (λ i l. word-told i (omega arith))
 
--- only the occupancy's lower word needs its 32 bits
 pub words-told : WordsTold
-words-told w v lw lv e = told w v (lw 4) (lv 4) e
+words-told w v lw lv e = told w v lw lv e

@@ -7,7 +7,7 @@ use lib.Dec.{eqb, ltb}
 use lib.ListN.{take, getD}
 use Rattle.lists.specs.Below.{elementIf, listIf, below}
 use Rattle.table.specs.Table.{Place, Call, Customer, Table}
-use Rattle.table.specs.Total.{totalOf}
+use Rattle.table.specs.Total.{slots}
 use Rattle.table.specs.Word.{isUsed}
 use Rattle.table.specs.Zeros.{noPlace, pastCall, pastCustomer}
 
@@ -54,7 +54,7 @@ abbrev pub openAt : Table → ℕ → List Entry
 openAt t i = elementIf (isUsed (t .occupied) i) (record { slot = i; ids = idsOf (callAt t i) })
 
 abbrev pub entries : Table → List Entry
-entries t = below (openAt t) (totalOf t)
+entries t = below (openAt t) slots
 
 -- ---- the connections: under the calls by slot and place, then those of Call ID 0 by customer and place
 
@@ -116,4 +116,4 @@ abbrev pub standaloneAt : Table → ℕ → List Held
 standaloneAt t k = listIf (ltb k (t .listed)) (heldIn (customerFour (customerAt t k)))
 
 abbrev pub held : Table → List Held
-held t = below (heldAt t) (totalOf t) ++ below (standaloneAt t) 8
+held t = below (heldAt t) slots ++ below (standaloneAt t) 8

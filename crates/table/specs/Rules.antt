@@ -13,8 +13,8 @@ use Rattle.numbers.specs.Search.{zerosAt}
 use Rattle.lists.specs.Count.{has, sumOf, noTwo}
 use Rattle.lists.specs.Below.{everyBelow}
 use Rattle.table.specs.Table.{Place, Call, Customer, Table}
-use Rattle.table.specs.Total.{totalOf}
-use Rattle.table.specs.Word.{isUsed}
+use Rattle.table.specs.Total.{slots, totalOf}
+use Rattle.table.specs.Word.{bits, isUsed}
 use Rattle.table.specs.Lists.{Terms, customerAt, roster, Ids, Entry, callAt, entries, Lsp, Held, Four, callFour, customerFour, placeAt, isTaken, held}
 use Rattle.table.specs.Share.{isListed, callsOf, S}
 
@@ -33,12 +33,12 @@ guarantees r = sumOf (λ c. c .guarantee) r
 unfoldable pub acceptable : ℕ → List Terms → Bool
 acceptable total r = not (has (badShare total) r) && noTwo sameAddress r && leb (guarantees r) total
 
--- acceptable, with an epoch of 24 bits; or empty, with own address and epoch zero
+-- acceptable, of form 1 or 2, with an epoch of 24 bits; or empty, with form, own address and epoch zero
 unfoldable pub rosterHolds : Table → Bool
 rosterHolds t =
     cond (eqb (t .listed) 0)
-    (eqb (t .address) 0 && eqb (t .epoch) 0)
-    (leb (t .listed) 8 && ltb (t .epoch) 0x1000000 && acceptable (totalOf t) (roster t))
+    (eqb (t .form) 0 && eqb (t .address) 0 && eqb (t .epoch) 0)
+    ((eqb (t .form) 1 || eqb (t .form) 2) && leb (t .listed) 8 && ltb (t .epoch) 0x1000000 && acceptable (totalOf t) (roster t))
 
 -- ---- calls
 
@@ -142,23 +142,26 @@ recordFreeClear t k = cond (ltb k (t .listed)) (customerFreeClear (customerAt t 
 -- ---- the rules by name
 
 pub data Rule : Type 0 where
-  rosterAcceptable sendersListed withinLimits shareWithinTotal shortIdsOnce longIdsOnce namesAndIds connectionsOnce freeHoldsZeros : Rule
+  rosterAcceptable slotsWithinTotal sendersListed withinLimits shareWithinTotal shortIdsOnce longIdsOnce namesAndIds connectionsOnce freeHoldsZeros : Rule
 
 abbrev pub holds : Rule → Table → Bool
 holds rosterAcceptable t = rosterHolds t
+-- 02, A11: no call stands outside the roster's total
+holds slotsWithinTotal t = everyBelow (λ i. not (isUsed (t .occupied) i) || ltb i (totalOf t)) bits
 holds sendersListed t = not (has (unlisted (roster t)) (entries t))
 holds withinLimits t = not (has (overLimit (entries t)) (roster t))
 holds shareWithinTotal t = leb (S (roster t) (entries t)) (totalOf t)
 holds shortIdsOnce t = noTwo (λ e f. sameShort (e .ids) (f .ids)) (entries t)
 holds longIdsOnce t = noTwo (λ e f. sameLong (e .ids) (f .ids)) (entries t)
-holds namesAndIds t = everyBelow (λ i. not (isUsed (t .occupied) i) || validIds (callAt t i)) (totalOf t)
+holds namesAndIds t = everyBelow (λ i. not (isUsed (t .occupied) i) || validIds (callAt t i)) slots
 holds connectionsOnce t = noTwo sameConnection (held t)
-holds freeHoldsZeros t = everyBelow (slotFreeClear t) (totalOf t) && everyBelow (recordFreeClear t) 8
+holds freeHoldsZeros t = everyBelow (slotFreeClear t) slots && everyBelow (recordFreeClear t) 8
 
 -- answer 1 is given unless every rule holds
 unfoldable pub rulesHold : Table → Bool
 rulesHold t =
     holds rosterAcceptable t
+    && holds slotsWithinTotal t
     && holds sendersListed t
     && holds withinLimits t
     && holds shareWithinTotal t

@@ -1,27 +1,30 @@
--- The table with one thing stored: a call, a customer, a connection, the occupancy word, the next own identifier.
+-- The table with one thing stored: a call, a customer, a connection, the occupancy's words, the next own identifier.
 use Prim.Native.Nat.{ℕ}
+use mathlib.Core.List.{List}
 use lib.ListN.{set}
 use Rattle.table.specs.Table.{Place, Call, Customer, Table}
 
--- another call in a slot, and the occupancy word beside it
-abbrev pub withSlot : Table → ℕ → ℕ → Call → Table
-withSlot t word i c = record {
+-- another call in a slot, and the occupancy's words beside it
+abbrev pub withSlot : Table → List ℕ → ℕ → Call → Table
+withSlot t words i c = record {
   address = t .address;
   epoch = t .epoch;
   next = t .next;
   listed = t .listed;
-  occupied = word;
+  form = t .form;
+  occupied = words;
   customers = t .customers;
   calls = set (t .calls) i c;
 }
 
-abbrev pub withOccupied : Table → ℕ → Table
-withOccupied t word = record {
+abbrev pub withOccupied : Table → List ℕ → Table
+withOccupied t words = record {
   address = t .address;
   epoch = t .epoch;
   next = t .next;
   listed = t .listed;
-  occupied = word;
+  form = t .form;
+  occupied = words;
   customers = t .customers;
   calls = t .calls;
 }
@@ -32,6 +35,7 @@ withNext t next = record {
   epoch = t .epoch;
   next = next;
   listed = t .listed;
+  form = t .form;
   occupied = t .occupied;
   customers = t .customers;
   calls = t .calls;
@@ -43,6 +47,7 @@ withCustomer t k c = record {
   epoch = t .epoch;
   next = t .next;
   listed = t .listed;
+  form = t .form;
   occupied = t .occupied;
   customers = set (t .customers) k c;
   calls = t .calls;
@@ -73,13 +78,14 @@ withStandalonePlace c j endpoint p = record {
   places = set (c .places) j p;
 }
 
--- what a roster says of the node, and how many customers it lists
-abbrev pub withRoster : Table → ℕ → ℕ → ℕ → Table
-withRoster t address epoch listed = record {
+-- what a roster says of the node, how many customers it lists, and its form
+abbrev pub withRoster : Table → ℕ → ℕ → ℕ → ℕ → Table
+withRoster t address epoch listed form = record {
   address = address;
   epoch = epoch;
   next = t .next;
   listed = listed;
+  form = form;
   occupied = t .occupied;
   customers = t .customers;
   calls = t .calls;

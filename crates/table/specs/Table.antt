@@ -32,13 +32,14 @@ pub record Customer : Type 0 where
   pub endpoints : List ℕ
   pub places : List Place
 
--- the roster as read (own address, own epoch, the first `listed` customers), the next own identifier, and the calls: slot i
--- is used where bit i of `occupied` is set
+-- the roster as read (own address, own epoch, the first `listed` customers, the roster's form, 0 where it lists none), the
+-- next own identifier, and the calls: bits in four words of 64 say which slots are used (Word.antt)
 pub record Table : Type 0 where
   pub address : ℕ
   pub epoch : ℕ
   pub next : ℕ
   pub listed : ℕ
-  pub occupied : ℕ
+  pub form : ℕ
+  pub occupied : List ℕ
   pub customers : List Customer
   pub calls : List Call

@@ -1,28 +1,28 @@
 -- The table that an array of 32-bit words is. Words and table are one to one (Claims.antt, WordsTold), so that a
 -- contract on the table settles every word. The code's constants are those of table/src/layout.rt.
 --
---   0 address   1 epoch   2 next   3 listed   4 occupied, slots 0 to 31   5 occupied, slots 32 to 63
---   6 + 23 k    customer k: address, guarantee, limit, 4 end points, 4 places
---   190 + 32 i  call i: end point, sender, last refresh, epoch, identifier, short ID, made mark, name length, 8 words of name, 4 places
+--   0 address   1 epoch   2 next   3 listed   4 form   5 to 12 occupied, 32 slots each
+--   13 + 23 k   customer k: address, guarantee, limit, 4 end points, 4 places
+--   197 + 32 i  call i: end point, sender, last refresh, epoch, identifier, short ID, made mark, name length, 8 words of name, 4 places
 --   a place: taken, tunnel, extended, LSP
 use Prim.Native.Nat.{ℕ, _+_, _*_, _/_, _%_}
 use mathlib.Core.List.{List, [], _∷_}
 use lib.ListN.{getD}
 use Rattle.lists.specs.Below.{below}
 use Rattle.table.specs.Table.{Place, Call, Customer, Table}
-use Rattle.table.specs.Total.{total}
+use Rattle.table.specs.Total.{slots}
 
 -- ---- where things stand
 
 abbrev pub customerStart : ℕ → ℕ
-customerStart k = 6 + 23 * k
+customerStart k = 13 + 23 * k
 
 abbrev pub callStart : ℕ → ℕ
-callStart i = 190 + 32 * i
+callStart i = 197 + 32 * i
 
 -- how many words there are
 abbrev pub wordCount : ℕ
-wordCount = 2238
+wordCount = 6597
 
 -- ---- what stands there
 
@@ -69,10 +69,11 @@ abbrev pub customersOf : List ℕ → List Customer
 customersOf w = below (λ k. customerAtWord w (customerStart k) ∷ []) 8
 
 abbrev pub slotsOf : List ℕ → List Call
-slotsOf w = below (λ i. callAtWord w (callStart i) ∷ []) total
+slotsOf w = below (λ i. callAtWord w (callStart i) ∷ []) slots
 
-abbrev pub occupiedOf : List ℕ → ℕ
-occupiedOf w = getD w 4 0 + getD w 5 0 * 4294967296
+-- a word of 64 slots is two of the array's, the lower slots' first
+abbrev pub occupiedOf : List ℕ → List ℕ
+occupiedOf w = below (λ k. (getD w (5 + 2 * k) 0 + getD w (6 + 2 * k) 0 * 4294967296) ∷ []) 4
 
 abbrev pub tableOf : List ℕ → Table
 tableOf w = record {
@@ -80,6 +81,7 @@ tableOf w = record {
   epoch = getD w 1 0;
   next = getD w 2 0;
   listed = getD w 3 0;
+  form = getD w 4 0;
   occupied = occupiedOf w;
   customers = customersOf w;
   calls = slotsOf w;

@@ -3,7 +3,7 @@
 use mathlib.Core.List.{[]}
 use lib.ListN.{replicate}
 use Rattle.table.specs.Table.{Place, Call, Customer, Table}
-use Rattle.table.specs.Total.{total}
+use Rattle.table.specs.Total.{slots}
 
 abbrev pub noPlace : Place
 noPlace = record { taken = 0; tunnel = 0; extended = 0; lsp = 0 }
@@ -32,9 +32,10 @@ emptyTable = record {
   epoch = 0;
   next = 1;
   listed = 0;
-  occupied = 0;
+  form = 0;
+  occupied = replicate 4 0;
   customers = replicate 8 noCustomer;
-  calls = replicate total noCall;
+  calls = replicate slots noCall;
 }
 
 -- what an index past an array's end would read: no index goes there, and a definition has to say something

@@ -13,7 +13,7 @@ pub enum RosterAnswer {
     SpareBits,
     Share,
     Repeated,
-    // The guarantees come to more than the table holds.
+    // The guarantees come to more than the form's total.
     Guarantees,
 }
 

@@ -1,18 +1,16 @@
 // The layout of the table: an array of 32-bit words that the caller lends. A call takes 32 words, a place for a
 // connection 4. Nothing but table_words uses the places.
 
-// How many slots for calls the table has.
-pub const SLOTS: usize = 64;
-
-// How many calls all customers may have together (01, The roster and Share): as many as there are slots.
-pub const TOTAL: usize = SLOTS;
+// How many slots for calls the table has, whatever form its roster is of. How many calls all customers may have together
+// is `total_for` of the form.
+pub const SLOTS: usize = 200;
 
 // How many customers a roster can list, and how many connections stand under a call, or with a customer.
 pub const CUSTOMERS: usize = 8;
 
 pub const PLACES: usize = 4;
 
-// The head. The occupancy has two words: the lower slots' first.
+// The head. The occupancy has eight words, the lower slots' first: two of them are one of 64 slots.
 pub const ADDRESS: usize = 0;
 
 pub const EPOCH: usize = 1;
@@ -21,12 +19,12 @@ pub const NEXT: usize = 2;
 
 pub const LISTED: usize = 3;
 
-pub const OCCUPIED_LOW: usize = 4;
+pub const FORM: usize = 4;
 
-pub const OCCUPIED_HIGH: usize = 5;
+pub const OCCUPIED: usize = 5;
 
 // A customer: its terms, then an end point for each of its places, then the places.
-pub const FIRST_CUSTOMER: usize = 6;
+pub const FIRST_CUSTOMER: usize = 13;
 
 pub const CUSTOMER_WORDS: usize = 23;
 
@@ -39,7 +37,7 @@ pub const ENDPOINTS: usize = 3;
 pub const CUSTOMER_FOUR: usize = 7;
 
 // A call: its numbers, the 8 words of its name, its places.
-pub const FIRST_CALL: usize = 190;
+pub const FIRST_CALL: usize = 197;
 
 pub const CALL_WORDS: usize = 32;
 
@@ -73,6 +71,6 @@ pub const EXTENDED: usize = 2;
 pub const LSP: usize = 3;
 
 // All of it.
-pub const WORDS: usize = 2238;
+pub const WORDS: usize = 6597;
 
 pub type Words = [u32; WORDS];

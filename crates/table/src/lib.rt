@@ -2,4 +2,5 @@
 pub mod answer;
 pub mod identifier;
 pub mod layout;
+pub mod total;
 pub mod word;

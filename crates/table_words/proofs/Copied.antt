@@ -10,7 +10,7 @@ use lib.Dec.{eqb}
 use lib.ListN.{length, getD, set, length-set}
 use lib.Seq.{getD-set-same, getD-set-other}
 use borrow.Author.Tests.{eqb-true, eqb-false}
-use Rattle.table.specs.Total.{total}
+use Rattle.table.specs.Total.{slots}
 use Rattle.table.specs.Stores.{withSlot}
 use Rattle.table.specs.Words.{callAtWord, callStart, occupiedOf, tableOf}
 use Rattle.table.proofs.Cells.{call-same}
@@ -43,7 +43,7 @@ one-copied w x v b k y fits e c = record {
         less j k l n = omega arith
 
 -- a slot's words stored
-pub slot-stored : (w x v : List ℕ) (i : ℕ) → i < total → Copied w x v (callStart i) 32
+pub slot-stored : (w x v : List ℕ) (i : ℕ) → i < slots → Copied w x v (callStart i) 32
     → tableOf v ≡ withSlot (tableOf w) (occupiedOf w) i (callAtWord x 0)
 slot-stored w x v i l c =
     slot-changed w v i l (c .other)

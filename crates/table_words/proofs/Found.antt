@@ -6,14 +6,14 @@ use mathlib.Core.Path.{refl, sym, ap, _∙_}
 use mathlib.Core.List.{List}
 use mathlib.Core.Bool.{true, false}
 use lib.ListN.{getD}
-use Rattle.table.specs.Total.{total}
+use Rattle.table.specs.Total.{slots}
 use Rattle.table.specs.Lists.{callAt, customerAt, callFour, customerFour}
 use Rattle.table.specs.Words.{callStart, customerStart, tableOf}
 use Rattle.table.proofs.Cells.{call-at, customer-at, endpoint-at}
 use Rattle.table_words.specs.declared.fours.FourPlace.{FourPlace}
 use Rattle.table_words.specs.Fours.{fourAtWord, Alike, FourInside}
 
-module _ (w : List ℕ) (i : ℕ) (l : i < total) where
+module _ (w : List ℕ) (i : ℕ) (l : i < slots) where
   abbrev pub callFourPlace : FourPlace
   callFourPlace = record {
     call = record { 0 = getD w (callStart i + 5) 0 };

@@ -12,7 +12,7 @@ use borrow.Author.Tests.{leb-true, leb-false}
 use Rattle.numbers.specs.Search.{zerosAt}
 use Rattle.lists.proofs.Tests.{both}
 use Rattle.table.specs.Table.{Call}
-use Rattle.table.specs.Total.{total}
+use Rattle.table.specs.Total.{slots}
 use Rattle.table.specs.Lists.{callAt, callFour}
 use Rattle.table.specs.Rules.{unusedClear, fourValid, callFreeClear}
 use Rattle.table.specs.Words.{callStart, tableOf}
@@ -20,7 +20,7 @@ use Rattle.table.proofs.Cells.{call-at}
 use Rattle.table_words.proofs.NameBytes.{name-long, zeros-drop}
 
 -- a slot's name has room for 32 bytes
-pub name-room : (w : List ℕ) (i : ℕ) → i < total → length (callAt (tableOf w) i .name) ≡ 32
+pub name-room : (w : List ℕ) (i : ℕ) → i < slots → length (callAt (tableOf w) i .name) ≡ 32
 name-room w i l = ap (λ c. length (c .name)) (call-at w i l) ∙ name-long w (callStart i + 8)
 
 pub free-zeros : (c : Call) → callFreeClear c ≡ true → zerosAt (c .name) (c .size) (32 - c .size) ≡ true

@@ -3,16 +3,16 @@
 -- Assumes nothing.
 use Prim.Native.Nat.{ℕ, _+_, _*_, _≤_, _<_}
 use native.Mathlib.Omega.{arith}
-use mathlib.Core.Path.{_≡_, sym, ap, _∙_}
+use mathlib.Core.Path.{_≡_, sym, ap, ap₂, _∙_}
 use mathlib.Core.List.{List, [], _∷_}
 use lib.ListN.{length, getD, set, length-set}
 use lib.Seq.{getD-set-same, getD-set-other}
 use Rattle.lists.proofs.Below.{below-ext, set-each}
-use Rattle.table.specs.Total.{total}
+use Rattle.table.specs.Total.{slots}
 use Rattle.table.specs.Lists.{callAt, customerAt}
 use Rattle.table.specs.Stores.{withSlot, withCustomer, withPlace, withStandalonePlace, withTerms, withNext, withOccupied, withRoster}
 use Rattle.table.specs.Words.{placeAtWord, placesAtWord, callAtWord, customerAtWord, customersOf, slotsOf, occupiedOf, customerStart, callStart, tableOf}
-use Rattle.table.proofs.Cells.{call-at, customer-at, name-same, place-same, places-same, customers-same, calls-same, calls-set, customers-set}
+use Rattle.table.proofs.Cells.{call-at, customer-at, name-same, place-same, places-same, occupied-same, customers-same, calls-same, calls-set, customers-set}
 
 -- words that are as they were but for the n from b on
 abbrev pub Elsewhere : List ℕ → List ℕ → ℕ → ℕ → Type 0
@@ -20,23 +20,24 @@ Elsewhere w v b n = (j : ℕ) → (b ≤ j → j < b + n → ⊥) → getD v j 0
 
 module _ (w v : List ℕ) where
   -- words that differ in the head only
-  pub head-changed : Elsewhere w v 0 6 → tableOf v ≡ record {
+  pub head-changed : Elsewhere w v 0 13 → tableOf v ≡ record {
     address = getD v 0 0;
     epoch = getD v 1 0;
     next = getD v 2 0;
     listed = getD v 3 0;
+    form = getD v 4 0;
     occupied = occupiedOf v;
     customers = customersOf w;
     calls = slotsOf w;
   }
   head-changed other = rw (customers-same w v (λ j p q. other j (λ r s. omega arith)), calls-same w v (λ j p. other j (λ r s. omega arith)))
 
-  module _ (b n : ℕ) (past : 6 ≤ b) (other : Elsewhere w v b n) where
-    head : (j : ℕ) → j < 6 → getD v j 0 ≡ getD w j 0
+  module _ (b n : ℕ) (past : 13 ≤ b) (other : Elsewhere w v b n) where
+    head : (j : ℕ) → j < 13 → getD v j 0 ≡ getD w j 0
     head j l = other j (λ r s. omega arith)
 
   -- words that differ in one slot only
-  pub slot-changed : (i : ℕ) → i < total → Elsewhere w v (callStart i) 32
+  pub slot-changed : (i : ℕ) → i < slots → Elsewhere w v (callStart i) 32
       → tableOf v ≡ withSlot (tableOf w) (occupiedOf w) i (callAtWord v (callStart i))
   slot-changed i l other =
       let h = head (callStart i) 32 (omega arith) other in
@@ -46,7 +47,7 @@ module _ (w v : List ℕ) where
         h 2 (omega arith),
         h 3 (omega arith),
         h 4 (omega arith),
-        h 5 (omega arith),
+        occupied-same w v (λ j p q. h j q),
         customers-same w v (λ j p q. other j (λ r s. omega arith)),
         calls-set w v i l other,
       )
@@ -62,7 +63,7 @@ module _ (w v : List ℕ) where
         h 2 (omega arith),
         h 3 (omega arith),
         h 4 (omega arith),
-        h 5 (omega arith),
+        occupied-same w v (λ j p q. h j q),
         customers-set w v k l other,
         calls-same w v (λ j p. other j (λ r s. omega arith)),
       )
@@ -111,7 +112,7 @@ module _ (w : List ℕ) (b x y z u : ℕ) (fits : b + 4 ≤ length w) where
       rw (p, q, r, s)
 
 -- a connection stored under a call
-module _ (w : List ℕ) (i j x y z u : ℕ) (long : length w ≡ 2238) (l : i < total) (m : j < 4) where
+module _ (w : List ℕ) (i j x y z u : ℕ) (long : length w ≡ 6597) (l : i < slots) (m : j < 4) where
   pub call-place-stored : tableOf (set4 w (callStart i + 16 + 4 * j) x y z u)
       ≡ withSlot (tableOf w) (occupiedOf w) i (withPlace (callAt (tableOf w) i) j (record { taken = x; tunnel = y; extended = z; lsp = u }))
   call-place-stored =
@@ -138,7 +139,7 @@ module _ (w : List ℕ) (i j x y z u : ℕ) (long : length w ≡ 2238) (l : i < 
       rw (call-at w i l) (slot-changed w v i l (λ k n. other k (λ p q. n (omega arith) (omega arith))) ∙ ap (λ c. withSlot (tableOf w) (occupiedOf w) i c) here)
 
 -- a connection of Call ID 0 stored with a customer, its end point first
-module _ (w : List ℕ) (k j e x y z u : ℕ) (long : length w ≡ 2238) (l : k < 8) (m : j < 4) where
+module _ (w : List ℕ) (k j e x y z u : ℕ) (long : length w ≡ 6597) (l : k < 8) (m : j < 4) where
   pub customer-place-stored : tableOf (set4 (set w (customerStart k + 3 + j) e) (customerStart k + 7 + 4 * j) x y z u)
       ≡ withCustomer (tableOf w) k (withStandalonePlace (customerAt (tableOf w) k) j e (record { taken = x; tunnel = y; extended = z; lsp = u }))
   customer-place-stored =
@@ -163,7 +164,7 @@ module _ (w : List ℕ) (k j e x y z u : ℕ) (long : length w ≡ 2238) (l : k 
       (customer-changed w v k l (λ i o. other i (λ p. o (omega arith) (omega arith)) (λ p q. o (omega arith) (omega arith))) ∙ ap (λ c. withCustomer (tableOf w) k c) here)
 
 -- a customer's terms stored
-module _ (w : List ℕ) (k x y z : ℕ) (long : length w ≡ 2238) (l : k < 8) where
+module _ (w : List ℕ) (k x y z : ℕ) (long : length w ≡ 6597) (l : k < 8) where
   pub terms-stored : tableOf (set (set (set w (customerStart k) x) (customerStart k + 1) y) (customerStart k + 2) z)
       ≡ withCustomer (tableOf w) k (withTerms (customerAt (tableOf w) k) x y z)
   terms-stored =
@@ -189,7 +190,7 @@ module _ (w : List ℕ) (k x y z : ℕ) (long : length w ≡ 2238) (l : k < 8) w
 
 -- ---- the head
 
-pub next-stored : (w : List ℕ) (n : ℕ) → length w ≡ 2238 → tableOf (set w 2 n) ≡ withNext (tableOf w) n
+pub next-stored : (w : List ℕ) (n : ℕ) → length w ≡ 6597 → tableOf (set w 2 n) ≡ withNext (tableOf w) n
 next-stored w n long =
     let other : (j : ℕ) → (j ≡ 2 → ⊥) → getD (set w 2 n) j 0 ≡ getD w j 0 = λ j p. getD-set-other w 2 j n 0 p in
     head-changed w (set w 2 n) (λ j p. other j (λ q. p (omega arith) (omega arith)))
@@ -199,42 +200,53 @@ next-stored w n long =
       getD-set-same w 2 n 0 (omega arith),
       other 3 (λ q. omega arith),
       other 4 (λ q. omega arith),
-      other 5 (λ q. omega arith),
+      occupied-same w (set w 2 n) (λ j p q. other j (λ e. omega arith)),
     )
 
--- the occupancy word in its two words
-pub occupied-stored : (w : List ℕ) (lo hi n : ℕ) → length w ≡ 2238 → lo + hi * 4294967296 ≡ n
-    → tableOf (set (set w 4 lo) 5 hi) ≡ withOccupied (tableOf w) n
-occupied-stored w lo hi n long e =
-    let a = set w 4 lo in
-    let v = set a 5 hi in
-    let other : (j : ℕ) → (j ≡ 4 → ⊥) → (j ≡ 5 → ⊥) → getD v j 0 ≡ getD w j 0 = λ j p q. getD-set-other a 5 j hi 0 q ∙ getD-set-other w 4 j lo 0 p in
+-- the marks of 64 slots in their two words
+pub used-stored : (w : List ℕ) (k lo hi n : ℕ) → length w ≡ 6597 → k < 4 → lo + hi * 4294967296 ≡ n
+    → tableOf (set (set w (5 + 2 * k) lo) (5 + 2 * k + 1) hi) ≡ withOccupied (tableOf w) (set (occupiedOf w) k n)
+used-stored w k lo hi n long l e =
+    let a = set w (5 + 2 * k) lo in
+    let v = set a (5 + 2 * k + 1) hi in
+    let other : (j : ℕ) → (j ≡ 5 + 2 * k → ⊥) → (j ≡ 5 + 2 * k + 1 → ⊥) → getD v j 0 ≡ getD w j 0 =
+    λ j p q. getD-set-other a (5 + 2 * k + 1) j hi 0 q ∙ getD-set-other w (5 + 2 * k) j lo 0 p in
+    let low : getD v (5 + 2 * k) 0 ≡ lo = getD-set-other a (5 + 2 * k + 1) (5 + 2 * k) hi 0 (λ q. omega arith) ∙ getD-set-same w (5 + 2 * k) lo 0 (omega arith) in
+    let high : getD v (6 + 2 * k) 0 ≡ hi =
+    ap (λ (j : ℕ). getD v j 0) (omega arith) ∙ getD-set-same a (5 + 2 * k + 1) hi 0 (omega (arith, length-set w (5 + 2 * k) lo)) in
+    let f : List ℕ → ℕ → ℕ = λ w k. getD w (5 + 2 * k) 0 + getD w (6 + 2 * k) 0 * 4294967296 in
+    let words : occupiedOf v ≡ set (occupiedOf w) k n =
+    sym (ap (λ (x : ℕ). set (occupiedOf w) k x) (sym (ap₂ (λ (x y : ℕ). x + y * 4294967296) low high ∙ e))
+    ∙ set-each (f w) (f v) 4 k l
+    (λ i o. ap₂ (λ (x y : ℕ). x + y * 4294967296) (sym (other (5 + 2 * i) (λ q. o (omega arith)) (λ q. omega arith))) (sym (other (6 + 2 * i) (λ q. omega arith) (λ q. o (omega arith)))))) in
     head-changed w v (λ j p. other j (λ q. p (omega arith) (omega arith)) (λ q. p (omega arith) (omega arith)))
     ∙ rw (
       other 0 (λ q. omega arith) (λ q. omega arith),
       other 1 (λ q. omega arith) (λ q. omega arith),
       other 2 (λ q. omega arith) (λ q. omega arith),
       other 3 (λ q. omega arith) (λ q. omega arith),
-      getD-set-other a 5 4 hi 0 (λ q. omega arith) ∙ getD-set-same w 4 lo 0 (omega arith),
-      getD-set-same a 5 hi 0 (omega (arith, length-set w 4 lo)),
-      e,
+      other 4 (λ q. omega arith) (λ q. omega arith),
+      words,
     )
 
-pub roster-stored : (w : List ℕ) (x y z : ℕ) → length w ≡ 2238 → tableOf (set (set (set w 0 x) 1 y) 3 z) ≡ withRoster (tableOf w) x y z
-roster-stored w x y z long =
+pub roster-stored : (w : List ℕ) (x y z u : ℕ) → length w ≡ 6597 → tableOf (set (set (set (set w 0 x) 1 y) 3 z) 4 u) ≡ withRoster (tableOf w) x y z u
+roster-stored w x y z u long =
     let a = set w 0 x in
     let b = set a 1 y in
-    let v = set b 3 z in
+    let c = set b 3 z in
+    let v = set c 4 u in
     let n = length-set w 0 x in
     let m = length-set a 1 y in
-    let other : (j : ℕ) → (j ≡ 0 → ⊥) → (j ≡ 1 → ⊥) → (j ≡ 3 → ⊥) → getD v j 0 ≡ getD w j 0 =
-    λ j p q r. getD-set-other b 3 j z 0 r ∙ getD-set-other a 1 j y 0 q ∙ getD-set-other w 0 j x 0 p in
-    head-changed w v (λ j p. other j (λ q. p (omega arith) (omega arith)) (λ q. p (omega arith) (omega arith)) (λ q. p (omega arith) (omega arith)))
+    let o = length-set b 3 z in
+    let other : (j : ℕ) → (j ≡ 0 → ⊥) → (j ≡ 1 → ⊥) → (j ≡ 3 → ⊥) → (j ≡ 4 → ⊥) → getD v j 0 ≡ getD w j 0 =
+    λ j p q r s. getD-set-other c 4 j u 0 s ∙ getD-set-other b 3 j z 0 r ∙ getD-set-other a 1 j y 0 q ∙ getD-set-other w 0 j x 0 p in
+    head-changed w v
+    (λ j p. other j (λ q. p (omega arith) (omega arith)) (λ q. p (omega arith) (omega arith)) (λ q. p (omega arith) (omega arith)) (λ q. p (omega arith) (omega arith)))
     ∙ rw (
-      getD-set-other b 3 0 z 0 (λ q. omega arith) ∙ getD-set-other a 1 0 y 0 (λ q. omega arith) ∙ getD-set-same w 0 x 0 (omega arith),
-      getD-set-other b 3 1 z 0 (λ q. omega arith) ∙ getD-set-same a 1 y 0 (omega arith),
-      other 2 (λ q. omega arith) (λ q. omega arith) (λ q. omega arith),
-      getD-set-same b 3 z 0 (omega arith),
-      other 4 (λ q. omega arith) (λ q. omega arith) (λ q. omega arith),
-      other 5 (λ q. omega arith) (λ q. omega arith) (λ q. omega arith),
+      getD-set-other c 4 0 u 0 (λ q. omega arith) ∙ getD-set-other b 3 0 z 0 (λ q. omega arith) ∙ getD-set-other a 1 0 y 0 (λ q. omega arith) ∙ getD-set-same w 0 x 0 (omega arith),
+      getD-set-other c 4 1 u 0 (λ q. omega arith) ∙ getD-set-other b 3 1 z 0 (λ q. omega arith) ∙ getD-set-same a 1 y 0 (omega arith),
+      other 2 (λ q. omega arith) (λ q. omega arith) (λ q. omega arith) (λ q. omega arith),
+      getD-set-other c 4 3 u 0 (λ q. omega arith) ∙ getD-set-same b 3 z 0 (omega arith),
+      getD-set-same c 4 u 0 (omega arith),
+      occupied-same w v (λ j p q. other j (λ e. omega arith) (λ e. omega arith) (λ e. omega arith) (λ e. omega arith)),
     )

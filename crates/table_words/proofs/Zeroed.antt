@@ -2,7 +2,7 @@
 -- Assumes nothing.
 use Prim.Native.Nat.{ℕ, _+_, _*_, _-_, _<_}
 use native.Mathlib.Omega.{arith}
-use mathlib.Core.Path.{_≡_, refl, sym, ap, _∙_}
+use mathlib.Core.Path.{_≡_, refl, sym, ap, ap₂, _∙_}
 use mathlib.Core.List.{List, [], _∷_}
 use mathlib.Core.Bool.{Bool, true, false}
 use lib.Dec.{eqb}
@@ -13,11 +13,11 @@ use Rattle.numbers.specs.Search.{zerosAt}
 use Rattle.lists.specs.Below.{below, everyBelow}
 use Rattle.lists.proofs.Tests.{both}
 use Rattle.lists.proofs.Below.{below-ext, every-within, every-at, every-same, every-rows}
-use Rattle.table.specs.Total.{total}
+use Rattle.table.specs.Total.{slots}
 use Rattle.table.specs.Lists.{callAt}
 use Rattle.table.specs.Zeros.{noPlace, noCall, noCustomer, emptyTable}
 use Rattle.table.specs.Rules.{placeClear, callClear, customerClear}
-use Rattle.table.specs.Words.{nameAtWord, placeAtWord, placesAtWord, callAtWord, customerAtWord, customersOf, slotsOf, customerStart, callStart, tableOf, wordCount}
+use Rattle.table.specs.Words.{nameAtWord, placeAtWord, placesAtWord, callAtWord, customerAtWord, customersOf, slotsOf, occupiedOf, customerStart, callStart, tableOf, wordCount}
 use Rattle.table.proofs.Cells.{call-at, call-same, customer-same, place-at, endpoint-at}
 use Rattle.table.proofs.Names.{alike}
 use Rattle.table.proofs.Told.{call-told, customer-told}
@@ -133,10 +133,10 @@ module _ (w : List ℕ) (b : ℕ) where
 
 -- the words of the slots from n on stand in one row
 pub clear-calls-words : (w : List ℕ) (n : ℕ)
-    → everyBelow (λ k. eqb (getD w (callStart n + k) 0) 0) (32 * (total - n)) ≡ everyBelow (λ j. callClear (callAt (tableOf w) (n + j))) (total - n)
+    → everyBelow (λ k. eqb (getD w (callStart n + k) 0) 0) (32 * (slots - n)) ≡ everyBelow (λ j. callClear (callAt (tableOf w) (n + j))) (slots - n)
 clear-calls-words w n =
-    every-rows (λ k. eqb (getD w (callStart n + k) 0) 0) 32 (total - n)
-    ∙ every-same _ _ (total - n)
+    every-rows (λ k. eqb (getD w (callStart n + k) 0) 0) 32 (slots - n)
+    ∙ every-same _ _ (slots - n)
     (λ j l.
     every-same _ _ 32 (λ k m. ap (λ (b : ℕ). eqb (getD w b 0) 0) (omega arith))
     ∙ clear-call-words w (callStart (n + j))
@@ -148,9 +148,9 @@ rows-eight : {A : Type 0} (x : A) → below (λ k. x ∷ []) 8 ≡ replicate 8 x
 unfolding below
 rows-eight x = refl
 
-rows-total : {A : Type 0} (x : A) → below (λ k. x ∷ []) total ≡ replicate total x
+rows-slots : {A : Type 0} (x : A) → below (λ k. x ∷ []) slots ≡ replicate slots x
 unfolding below
-rows-total x = refl
+rows-slots x = refl
 
 pub table-zeroed : (w : List ℕ) → length w ≡ wordCount → ((k : ℕ) → k < wordCount → getD w k 0 ≡ 0) → tableOf (set w 2 1) ≡ emptyTable
 unfolding emptyTable
@@ -158,18 +158,20 @@ table-zeroed w lw h =
     let v = set w 2 1 in
     let next : getD v 2 0 ≡ 1 = getD-set-same w 2 1 0 (omega arith) in
     let other : (k : ℕ) → (k ≡ 2 → ⊥) → k < wordCount → getD v k 0 ≡ 0 = λ k n l. getD-set-other w 2 k 1 0 n ∙ h k l in
-    let one : (k : ℕ) → k < 6 → (k ≡ 2 → ⊥) → getD v k 0 ≡ 0 = λ k l n. other k n (omega arith) in
+    let one : (k : ℕ) → k < 13 → (k ≡ 2 → ⊥) → getD v k 0 ≡ 0 = λ k l n. other k n (omega arith) in
+    let os : occupiedOf v ≡ replicate 4 0 =
+    below-ext _ _ 4 (λ k l. ap₂ (λ (x y : ℕ). (x + y * 4294967296) ∷ []) (one (5 + 2 * k) (omega arith) (λ e. omega arith)) (one (6 + 2 * k) (omega arith) (λ e. omega arith))) ∙ endpoints-none in
     let cs : customersOf v ≡ replicate 8 noCustomer =
     below-ext _ _ 8 (λ k l. ap (λ x. x ∷ []) (customer-zeros v (customerStart k) (λ j m. other (customerStart k + j) (λ e. omega arith) (omega arith)))) ∙ rows-eight noCustomer in
-    let ks : slotsOf v ≡ replicate total noCall =
-    below-ext _ _ total (λ i l. ap (λ x. x ∷ []) (call-zeros v (callStart i) (λ j m. other (callStart i + j) (λ e. omega arith) (omega arith)))) ∙ rows-total noCall in
+    let ks : slotsOf v ≡ replicate slots noCall =
+    below-ext _ _ slots (λ i l. ap (λ x. x ∷ []) (call-zeros v (callStart i) (λ j m. other (callStart i + j) (λ e. omega arith) (omega arith)))) ∙ rows-slots noCall in
     rw (
       one 0 (omega arith) (λ e. omega arith),
       one 1 (omega arith) (λ e. omega arith),
       next,
       one 3 (omega arith) (λ e. omega arith),
       one 4 (omega arith) (λ e. omega arith),
-      one 5 (omega arith) (λ e. omega arith),
+      os,
       cs,
       ks,
     )

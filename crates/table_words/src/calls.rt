@@ -2,7 +2,7 @@
 ghost use mathlib.Core.Path.{_≡_};
 ghost use Prim.Native.Nat.{_+_, _-_, _≤_, _<_};
 ghost use Rattle.lists.specs.Below.{everyBelow};
-ghost use Rattle.table.specs.Total.{total};
+ghost use Rattle.table.specs.Total.{slots};
 ghost use Rattle.table.specs.Lists.{callAt};
 ghost use Rattle.table.specs.Rules.{sameBytes, callClear};
 ghost use Rattle.table.specs.Stores.{withSlot};
@@ -41,7 +41,7 @@ pub struct CallHead {
 }
 
 pub fn call_head(t: &Words, i: usize) -> CallHead
-    requires { ⌜ i < total ⌝ }
+    requires { ⌜ i < slots ⌝ }
     ensures { λ r. ⌜ r ≡ headOf (callAt (tableOf (now (t .entry))) i) ⌝ }
 {
     let b = FIRST_CALL + CALL_WORDS * i;
@@ -60,7 +60,7 @@ pub fn call_head(t: &Words, i: usize) -> CallHead
 // The slot's name, all 32 bytes of it, is that of eight words. No early exit: then the compiler compares several words at
 // a time.
 pub fn is_named(t: &Words, i: usize, name: &[u32; 8]) -> bool
-    requires { ⌜ i < total ⌝ }
+    requires { ⌜ i < slots ⌝ }
     ensures { λ r. ⌜ r ≡ sameBytes (nameAtWord (now (name .entry)) 0) (callAt (tableOf (now (t .entry))) i .name) ⌝ }
 {
     let b = FIRST_CALL + CALL_WORDS * i + NAME;
@@ -75,7 +75,7 @@ pub fn is_named(t: &Words, i: usize, name: &[u32; 8]) -> bool
 
 // Two slots' names, all 32 bytes of them, are the same.
 pub fn same_names(t: &Words, j: usize, i: usize) -> bool
-    requires { ⌜ (j < total) × (i < total) ⌝ }
+    requires { ⌜ (j < slots) × (i < slots) ⌝ }
     ensures { λ r. ⌜ r ≡ sameBytes (callAt (tableOf (now (t .entry))) j .name) (callAt (tableOf (now (t .entry))) i .name) ⌝ }
 {
     let b = FIRST_CALL + CALL_WORDS * j + NAME;
@@ -91,17 +91,17 @@ pub fn same_names(t: &Words, j: usize, i: usize) -> bool
 
 // A free slot: all of its words are zero.
 pub fn call_clear(t: &Words, i: usize) -> bool
-    requires { ⌜ i < total ⌝ }
+    requires { ⌜ i < slots ⌝ }
     ensures { λ r. ⌜ r ≡ callClear (callAt (tableOf (now (t .entry))) i) ⌝ }
 {
     zero_words(t, FIRST_CALL + CALL_WORDS * i, CALL_WORDS)
 }
 
-// The slots from n on are free: their words stand in one row, and all are zero. Whoever asks has n from the occupancy
-// word.
+// The slots from n on are free: their words stand in one row, and all are zero. Whoever asks has n from the occupancy's
+// words.
 pub fn calls_clear_from(t: &Words, n: usize) -> bool
-    requires { ⌜ n ≤ total ⌝ }
-    ensures { λ r. ⌜ r ≡ everyBelow (λ j. callClear (callAt (tableOf (now (t .entry))) (n + j))) (total - n) ⌝ }
+    requires { ⌜ n ≤ slots ⌝ }
+    ensures { λ r. ⌜ r ≡ everyBelow (λ j. callClear (callAt (tableOf (now (t .entry))) (n + j))) (slots - n) ⌝ }
 {
     zero_words(t, FIRST_CALL + CALL_WORDS * n, CALL_WORDS * (SLOTS - n))
 }
@@ -148,7 +148,7 @@ pub fn call_words(c: CallHead, name: &[u32; 8]) -> [u32; 32]
 
 // A slot's words stored; whether it is used is another matter.
 pub fn put_slot(t: &mut Words, i: usize, x: &[u32; 32])
-    requires { ⌜ i < total ⌝ }
+    requires { ⌜ i < slots ⌝ }
     ensures { λ _. ⌜ tableOf (now (t .exit)) ≡ withSlot (tableOf (now (t .entry))) (tableOf (now (t .entry)) .occupied) i (callAtWord (now (x .entry)) 0) ⌝ }
 {
     sized(t);

@@ -1,7 +1,7 @@
 // The fours of connections: a call's, and a customer's of Call ID 0, by where they stand.
 ghost use mathlib.Core.Path.{_≡_};
 ghost use Prim.Native.Nat.{_<_};
-ghost use Rattle.table.specs.Total.{total};
+ghost use Rattle.table.specs.Total.{slots};
 ghost use Rattle.table.specs.Zeros.{noPlace};
 ghost use Rattle.table.specs.Lists.{callAt, customerAt, callFour, customerFour, placeAt};
 ghost use Rattle.table.specs.Stores.{withSlot, withCustomer, withPlace, withStandalonePlace};
@@ -51,7 +51,7 @@ pub struct FourPlace {
 }
 
 pub fn call_four(t: &Words, i: usize) -> FourPlace
-    requires { ⌜ i < total ⌝ }
+    requires { ⌜ i < slots ⌝ }
     ensures { λ r. ⌜ Alike (fourAtWord (now (t .entry)) r) (callFour (callAt (tableOf (now (t .entry))) i)) × FourInside r ⌝ }
 {
     let b = FIRST_CALL + CALL_WORDS * i;
@@ -124,7 +124,7 @@ pub fn no_place() -> PlaceWords
 
 // A place in a call's four stored.
 pub fn put_call_place(t: &mut Words, i: usize, j: usize, p: PlaceWords)
-    requires { ⌜ (i < total) × (j < 4) ⌝ }
+    requires { ⌜ (i < slots) × (j < 4) ⌝ }
     ensures { λ _. ⌜ tableOf (now (t .exit)) ≡ withSlot (tableOf (now (t .entry))) (tableOf (now (t .entry)) .occupied) i (withPlace (callAt (tableOf (now (t .entry))) i) j (placeOfWords p)) ⌝ }
 {
     sized(t);

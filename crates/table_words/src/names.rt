@@ -3,7 +3,7 @@ ghost use mathlib.Core.Path.{_≡_};
 ghost use Prim.Native.Nat.{_+_, _≤_, _<_, min};
 ghost use lib.ListN.{length, getD, take, drop, replicate};
 ghost use Rattle.numbers.specs.Buffer.{atFront};
-ghost use Rattle.table.specs.Total.{total};
+ghost use Rattle.table.specs.Total.{slots};
 ghost use Rattle.table.specs.Lists.{callAt};
 ghost use Rattle.table.specs.Words.{bytesOf, nameAtWord, tableOf};
 ghost use Rattle.table_words.specs.Names.{wordIn};
@@ -28,7 +28,7 @@ fn byte_of(word: u32, j: usize) -> u8
 }
 
 pub fn name_byte(t: &Words, i: usize, k: usize) -> u8
-    requires { ⌜ (i < total) × (k < 32) ⌝ }
+    requires { ⌜ (i < slots) × (k < 32) ⌝ }
     ensures { λ r. ⌜ r ≡ getD (callAt (tableOf (now (t .entry))) i .name) k 0 ⌝ }
 {
     byte_of(word(t, FIRST_CALL + CALL_WORDS * i + NAME, k / 4), k % 4)
@@ -36,7 +36,7 @@ pub fn name_byte(t: &Words, i: usize, k: usize) -> u8
 
 // One of the eight words of a slot's name: four of its bytes, the low one first.
 pub fn name_word(t: &Words, i: usize, k: usize) -> u32
-    requires { ⌜ (i < total) × (k < 8) ⌝ }
+    requires { ⌜ (i < slots) × (k < 8) ⌝ }
     ensures { λ r. ⌜ r ≡ wordIn (callAt (tableOf (now (t .entry))) i .name) k ⌝ }
 {
     word(t, FIRST_CALL + CALL_WORDS * i + NAME, k)

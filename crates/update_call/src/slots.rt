@@ -2,7 +2,7 @@
 ghost use mathlib.Core.Path.{_≡_};
 ghost use Prim.Native.Nat.{_<_, _≤_};
 ghost use Rattle.objects.specs.Part.{Within};
-ghost use Rattle.table.specs.Total.{total};
+ghost use Rattle.table.specs.Total.{slots};
 ghost use Rattle.table.specs.Word.{lowestFree, withFree};
 ghost use Rattle.table.specs.Zeros.{noCall};
 ghost use Rattle.table.specs.Stores.{withSlot};
@@ -10,18 +10,16 @@ ghost use Rattle.table.specs.Words.{callAtWord, tableOf};
 ghost use Rattle.spec_changes.specs.Calls.{stored, opened, identifierTaken};
 ghost use Rattle.spec_calls.specs.CallRules.{idsIn};
 use messages::message::CallRequest;
+use occupancy::mark_free;
+use occupancy::mark_used;
 use table::identifier::identifier_after;
 use table::layout::Words;
-use table::word::with_free;
-use table::word::with_used;
 use table_words::calls::CallHead;
 use table_words::calls::CallWord;
 use table_words::calls::call_words;
 use table_words::calls::put_slot;
 use table_words::head::next;
-use table_words::head::occupied;
 use table_words::head::set_next;
-use table_words::head::set_occupied;
 use table_words::names::name_words;
 
 // The words of a request's call. Its name lies within the message and fits the slot: the reading promises that.
@@ -45,24 +43,22 @@ fn new_call(msg: &[u8], q: CallRequest) -> [u32; 32]
 
 // The request's call in the lowest free slot. The rules leave one free where a call may be opened.
 pub fn open_slot(t: &mut Words, slot: usize, msg: &[u8], q: CallRequest)
-    requires { ⌜ Within (now msg) (q .name) × (q .name .size ≤ 32) × (slot ≡ lowestFree (tableOf (now t) .occupied)) × (slot < total) ⌝ }
+    requires { ⌜ Within (now msg) (q .name) × (q .name .size ≤ 32) × (slot ≡ lowestFree (tableOf (now t) .occupied)) × (slot < slots) ⌝ }
     ensures { λ _. ⌜ tableOf (now (t .exit)) ≡ opened (tableOf (now (t .entry))) (idsIn (now (msg .entry)) q) ⌝ }
 {
-    let word = occupied(t);
     let call = new_call(msg, q);
     put_slot(t, slot, &call);
-    set_occupied(t, with_used(word, slot));
+    mark_used(t, slot);
 }
 
 // A slot free, with zeros in it, whatever it was.
 pub fn close_slot(t: &mut Words, slot: usize)
-    requires { ⌜ slot < total ⌝ }
+    requires { ⌜ slot < slots ⌝ }
     ensures { λ _. ⌜ tableOf (now (t .exit)) ≡ withSlot (tableOf (now (t .entry))) (withFree (tableOf (now (t .entry)) .occupied) slot) slot noCall ⌝ }
 {
-    let word = occupied(t);
     let zeros = [0u32; 32];
     put_slot(t, slot, &zeros);
-    set_occupied(t, with_free(word, slot));
+    mark_free(t, slot);
 }
 
 pub fn take_identifier(t: &mut Words)

@@ -4,7 +4,7 @@ ghost use mathlib.Core.Path.{_≡_};
 ghost use mathlib.Core.Bool.{true};
 ghost use Prim.Native.Nat.{_<_};
 ghost use Rattle.lists.specs.Count.{has};
-ghost use Rattle.table.specs.Total.{total};
+ghost use Rattle.table.specs.Total.{slots};
 ghost use Rattle.table.specs.Lists.{customerAt, roster, callAt, callFour, customerFour, heldIn};
 ghost use Rattle.table.specs.Share.{isListed};
 ghost use Rattle.table.specs.Rules.{isLsp};
@@ -76,7 +76,7 @@ fn place_for(x: Lsp) -> PlaceWords
 // Into the lowest free place of a slot's call. A slot is one of the table's. Its four is not full: place 0 of a full one
 // would be overwritten.
 pub fn add_under(t: &mut Words, slot: usize, x: Lsp)
-    requires { ⌜ slot < total ⌝ }
+    requires { ⌜ slot < slots ⌝ }
     ensures { λ _. ⌜ tableOf (now (t .exit)) ≡ addedUnder (tableOf (now (t .entry))) slot (lspOf x) ⌝ }
 {
     let j = free_place(t, call_four(t, slot));
@@ -85,7 +85,7 @@ pub fn add_under(t: &mut Words, slot: usize, x: Lsp)
 
 // Out of its place in a slot's call, which holds it, and zeros into that place.
 pub fn remove_under(t: &mut Words, slot: usize, x: Lsp)
-    requires { ⌜ (slot < total) × (has (isLsp (lspOf x)) (heldIn (callFour (callAt (tableOf (now t)) slot))) ≡ true) ⌝ }
+    requires { ⌜ (slot < slots) × (has (isLsp (lspOf x)) (heldIn (callFour (callAt (tableOf (now t)) slot))) ≡ true) ⌝ }
     ensures { λ _. ⌜ tableOf (now (t .exit)) ≡ removedUnder (tableOf (now (t .entry))) slot (lspOf x) ⌝ }
 {
     let j = place_with(t, call_four(t, slot), x);

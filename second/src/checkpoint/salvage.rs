@@ -6,13 +6,13 @@ use super::layout::{CallRecord, ConnectionRecord};
 use crate::keys::{LongId, ShortId};
 use crate::node::{Node, OpenCall};
 use crate::places::Places;
-use crate::table::{Table, CALLS};
+use crate::table::Table;
 
 /// The node of the records kept, under the roster whose fresh table is given.
 pub fn salvage(fresh: &Table, calls: &[CallRecord], connections: &[ConnectionRecord]) -> Node {
-    let alone = calls.iter().filter(|record| stands_alone(fresh, record));
-    let alone: Vec<&CallRecord> = alone.collect();
     let mut node = Node::from_table(fresh).expect("a fresh table breaks no rule");
+    let alone = calls.iter().filter(|record| stands_alone(&node, record));
+    let alone: Vec<&CallRecord> = alone.collect();
     for record in without_duplicates(&alone, connections) {
         node.keep_call(record);
     }
@@ -22,16 +22,10 @@ pub fn salvage(fresh: &Table, calls: &[CallRecord], connections: &[ConnectionRec
     node
 }
 
-/// Step 1: the slot is there, and the table of the roster and this one call breaks no rule.
-fn stands_alone(fresh: &Table, record: &CallRecord) -> bool {
-    let slot = usize::from(record.slot);
-    if slot >= CALLS {
-        return false;
-    }
-    let mut table = *fresh;
-    table.calls[slot] = record.call;
-    table.occupy(slot);
-    Node::from_table(&table).is_some()
+/// Step 1: the slot is one of the total, and the roster's table with this one call breaks no rule.
+fn stands_alone(fresh: &Node, record: &CallRecord) -> bool {
+    let mut node = fresh.clone();
+    node.insert_call(record.slot.into(), &record.call).is_some() && node.keeps_share()
 }
 
 /// Step 2: of the calls with one pair and long ID, the one that most connection records name, the first if equal.
@@ -60,14 +54,14 @@ impl Node {
     fn keep_call(&mut self, record: &CallRecord) {
         let slot = usize::from(record.slot);
         let (short, long) = (record.short_id(), record.long_id());
-        if !self.free.contains(&slot) || self.calls.contains_key(&short) {
+        if !self.free.is_free(slot) || self.calls.contains_key(&short) {
             return;
         }
         let customer = self.roster.find(record.call.sender);
         let customer = customer.expect("listed, or dropped in step 1");
         self.roster.accounts[customer].open += 1;
         let account = &self.roster.accounts[customer];
-        if account.open > account.limit || self.roster.share_sum() > CALLS {
+        if account.open > account.limit || !self.keeps_share() {
             self.roster.accounts[customer].open -= 1;
             return;
         }
@@ -76,7 +70,7 @@ impl Node {
             name: long.1,
             places: Places::default(),
         };
-        self.free.remove(&slot);
+        self.free.take(slot);
         self.calls.insert(short, open);
         self.long_ids.insert(long, short.1);
     }

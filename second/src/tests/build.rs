@@ -106,13 +106,22 @@ pub fn tear(sender: u32, call: u16, lsp: u16) -> Vec<u8> {
     message(PATH_TEAR, &[session(END, call, 1, X), template(sender, lsp)])
 }
 
-/// A roster: own address 10.0.0.2, epoch 7, records of address, guarantee and limit.
+/// A roster of form 1: own address 10.0.0.2, epoch 7, records of address, guarantee and limit.
 pub fn roster(records: &[(u32, u16, u16)]) -> Vec<u8> {
-    let mut bytes = vec![0x10 | records.len() as u8];
+    packed(0x10, records, |guarantee, limit| guarantee << 9 | limit << 2)
+}
+
+/// The same in form 2 (A11): 8 bits of guarantee and 8 of limit.
+pub fn roster_2(records: &[(u32, u16, u16)]) -> Vec<u8> {
+    packed(0x20, records, |guarantee, limit| guarantee << 8 | limit)
+}
+
+fn packed(form: u8, records: &[(u32, u16, u16)], share: fn(u16, u16) -> u16) -> Vec<u8> {
+    let mut bytes = vec![form | records.len() as u8];
     bytes.extend(hex("0a000002 000007"));
-    for (address, guarantee, limit) in records {
+    for &(address, guarantee, limit) in records {
         bytes.extend(address.to_be_bytes());
-        bytes.extend((guarantee << 9 | limit << 2).to_be_bytes());
+        bytes.extend(share(guarantee, limit).to_be_bytes());
     }
     bytes
 }
@@ -126,7 +135,12 @@ pub struct TestNode {
 
 impl TestNode {
     pub fn new(records: &[(u32, u16, u16)]) -> TestNode {
-        let (answer, table) = read_roster(&roster(records));
+        TestNode::of(&roster(records))
+    }
+
+    /// Of an acceptable roster's bytes.
+    pub fn of(roster: &[u8]) -> TestNode {
+        let (answer, table) = read_roster(roster);
         assert_eq!(answer, 0);
         TestNode::with(table)
     }

@@ -56,19 +56,22 @@ pub const ROOMY: &[(u32, u16, u16)] = &[(X, 1, 4), (Y, 10, 60)];
 
 /// Salvages a checkpoint. Plain reading has to answer 72 exactly when something is dropped, and else give the same.
 pub fn salvage(records: &[(u32, u16, u16)], checkpoint: &[u8]) -> Read {
-    let roster = roster(records);
-    let (answer, table, calls, connections) = read_checkpoint(true, &roster, checkpoint);
+    salvage_under(&roster(records), checkpoint)
+}
+
+/// The same under a roster of any form, by its bytes.
+pub fn salvage_under(roster: &[u8], checkpoint: &[u8]) -> Read {
+    let (answer, table, calls, connections) = read_checkpoint(true, roster, checkpoint);
     assert_eq!(answer, 0);
     assert!(crate::Node::from_table(&table).is_some());
-    let plain = read_checkpoint(false, &roster, checkpoint);
+    let plain = read_checkpoint(false, roster, checkpoint);
     if (calls, connections) == (0, 0) {
         assert_eq!(plain, (0, table, 0, 0));
     } else {
-        assert_eq!(plain, (72, crate::read_roster(&roster).1, 0, 0));
+        assert_eq!(plain, (72, crate::read_roster(roster).1, 0, 0));
     }
-    let used = (0..64).filter(|&slot| table.uses(slot));
     Read {
-        calls: used.map(|slot| (slot, table.calls[slot].id as u16)).collect(),
+        calls: table.used().map(|slot| (slot, table.calls[slot].id as u16)).collect(),
         dropped: (calls, connections),
         table,
     }

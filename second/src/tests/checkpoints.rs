@@ -259,5 +259,5 @@ fn the_worst_checkpoint_is_read_soon() {
     assert_eq!((answer, calls), (0, 4095 - 60));
     // Four under each of the sixty calls, four of Call ID 0.
     assert_eq!(connections, 65535 - 4 * 61);
-    assert_eq!((0..64).filter(|&slot| table.uses(slot)).count(), 60);
+    assert_eq!(table.used().count(), 60);
 }

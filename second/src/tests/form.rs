@@ -29,7 +29,8 @@ fn padded(length: usize) -> Vec<u8> {
 #[test]
 fn a_broken_table_is_1_before_all_else() {
     let broken = Table {
-        occupied: [1, 0],
+        form: 1,
+        occupied: [1, 0, 0, 0, 0, 0, 0, 0],
         ..TestNode::two().table
     };
     let mut reply = [OLD; 5];

@@ -1,4 +1,4 @@
-//! Tests from document 01's own examples and sentences and from request A13's. Expected values come from there.
+//! Tests from document 01's own examples and sentences and from those of requests A1, A11 and A13. Expected values come from there.
 
 mod build;
 mod calls;
@@ -14,3 +14,4 @@ mod salvage_alone;
 mod salvage_beside;
 mod salvage_duplicates;
 mod streams;
+mod two_hundred;

@@ -17,6 +17,7 @@ fn the_worked_roster_is_read() {
         address: 0x0a00_0002,
         epoch: 7,
         listed: 1,
+        form: 1,
         ..Table::EMPTY
     };
     expected.customers[0] = Customer {
@@ -34,13 +35,22 @@ fn length_and_form() {
     for length in 0..8 {
         assert_eq!(read_roster(&vec![0xff; length]).0, 40);
     }
-    assert_eq!(read_roster(&hex("210a000002000007 0a0000010208")).0, 41);
-    assert_eq!(read_roster(&hex("100a000002000007")).0, 41);
-    assert_eq!(read_roster(&hex("190a000002000007")).0, 41);
-    assert_eq!(read_roster(&hex("110a000002000007")).0, 42);
-    assert_eq!(read_roster(&hex("110a000002000007 0a000001020800")).0, 42);
-    assert_eq!(read_roster(&hex("110a000002000007 0a00000102")).0, 42);
+    for form in (0..16).filter(|form| ![1, 2].contains(form)) {
+        let mut bytes = hex("110a000002000007 0a0000010208");
+        bytes[0] = form << 4 | 1;
+        assert_eq!(read_roster(&bytes).0, 41);
+    }
+    // The same tests for both forms.
+    for form in ["1", "2"] {
+        let answer = |rest: &str| read_roster(&hex(&format!("{form}{rest}"))).0;
+        assert_eq!(answer("00a000002000007"), 41);
+        assert_eq!(answer("90a000002000007"), 41);
+        assert_eq!(answer("10a000002000007"), 42);
+        assert_eq!(answer("10a000002000007 0a000001020800"), 42);
+        assert_eq!(answer("10a000002000007 0a00000102"), 42);
+    }
     // 41 before 42, 42 before 43.
+    assert_eq!(read_roster(&hex("300a000002000007 00")).0, 41);
     assert_eq!(read_roster(&hex("200a000002000007 00")).0, 41);
     assert_eq!(read_roster(&hex("110a000002000007 0a000001020b 00")).0, 42);
 }

@@ -42,11 +42,12 @@ fn the_layout_is_that_of_the_header() {
     assert_eq!(call, [0, 1, 2, 3, 4, 5, 6, 7, 8, 16]);
     let customer = words!(Customer address Customer guarantee Customer limit Customer endpoints Customer places);
     assert_eq!(customer, [0, 1, 2, 3, 7]);
-    let table = words!(Table address Table epoch Table next Table listed Table occupied Table customers Table calls);
-    assert_eq!(table, [0, 1, 2, 3, 4, 6, 190]);
+    let table = words!(Table address Table epoch Table next Table listed Table form Table occupied Table customers
+        Table calls);
+    assert_eq!(table, [0, 1, 2, 3, 4, 5, 13, 197]);
     let bytes = [size_of::<Place>(), size_of::<Call>(), size_of::<Customer>()];
     assert_eq!(bytes, [16, 128, 92]);
-    assert_eq!((size_of::<Table>(), align_of::<Table>()), (4 * 2238, 4));
+    assert_eq!((size_of::<Table>(), align_of::<Table>()), (4 * 6597, 4));
 }
 
 #[test]
@@ -71,12 +72,21 @@ fn the_empty_table() {
     assert!(!empty(|t| t.next = 9));
     assert!(empty(|t| t.address = 1));
     assert!(empty(|t| t.epoch = 1));
-    assert!(empty(|t| t.occupied = [1, 0]));
+    for form in [1, 2, 3, u32::MAX] {
+        assert!(breaks(|t| *t = Table { form, ..Table::EMPTY }));
+    }
+    for bit in 0..256 {
+        assert!(breaks(|t| {
+            *t = Table::EMPTY;
+            t.occupied[bit / 32] = 1 << (bit % 32);
+        }));
+    }
     assert!(empty(|t| t.customers[0].limit = 1));
     assert!(empty(|t| t.customers[7].address = 1));
     assert!(empty(|t| t.calls[63].id = 1));
     assert!(empty(|t| t.calls[0].made = 1));
-    assert!(empty(|t| t.calls[63].identifier = 1));
+    assert!(empty(|t| t.calls[64].id = 1));
+    assert!(empty(|t| t.calls[199].identifier = 1));
 }
 
 #[test]
@@ -177,7 +187,7 @@ fn names() {
 #[test]
 fn zeros_for_later_requests() {
     // A used slot, the last used one, a free one, the last one.
-    for slot in [0, 2, 3, 63] {
+    for slot in [0, 2, 3, 63, 64, 199] {
         assert!(breaks(|t| t.calls[slot].made = 1));
         for value in [1, 1 << 23, 1 << 24, 1 << 31, u32::MAX] {
             assert!(breaks(|t| t.calls[slot].refreshed = value));
@@ -189,7 +199,7 @@ fn zeros_for_later_requests() {
 
 #[test]
 fn free_slots_are_zeros() {
-    assert!(breaks(|t| t.occupied = [0, 0]));
+    assert!(breaks(|t| t.occupied = [0; 8]));
     assert!(breaks(|t| t.occupied[1] |= 1 << 31));
     assert!(breaks(|t| t.calls[3].endpoint = 1));
     assert!(breaks(|t| t.calls[3].sender = 1));
@@ -200,7 +210,7 @@ fn free_slots_are_zeros() {
     // A call may stand in any slot.
     assert!(!breaks(|t| {
         t.calls.swap(0, 63);
-        t.occupied = [0b110, 1 << 31];
+        (t.occupied[0], t.occupied[1]) = (0b110, 1 << 31);
     }));
 }
 

@@ -17,18 +17,28 @@ impl Dice {
 /// An entry: end point, sender, short ID, long ID.
 type Entry = (u32, u32, u16, Vec<u8>);
 
-#[derive(Default)]
 struct Ledger {
+    /// Guarantee and limit of each customer, and the roster's total.
+    shares: [(usize, usize); 2],
+    total: usize,
     entries: Vec<Entry>,
     opened: [usize; 2],
     closed: [usize; 2],
 }
 
 const CUSTOMERS: [u32; 2] = [X, Y];
-/// Guarantee and limit of each.
-const SHARES: [(usize, usize); 2] = [(1, 8), (58, 60)];
 
 impl Ledger {
+    fn new(shares: [(usize, usize); 2], total: usize) -> Ledger {
+        Ledger {
+            shares,
+            total,
+            entries: Vec::new(),
+            opened: [0; 2],
+            closed: [0; 2],
+        }
+    }
+
     fn count(&self, customer: usize) -> usize {
         let sender = CUSTOMERS[customer];
         self.entries.iter().filter(|e| e.1 == sender).count()
@@ -37,15 +47,15 @@ impl Ledger {
     /// What a setup without a fault of form is answered.
     fn expects(&self, customer: usize, entry: &Entry) -> u8 {
         let mut pair = self.entries.iter().filter(|e| (e.0, e.1) == (entry.0, entry.1));
-        let s: usize = (0..2).map(|i| self.count(i).max(SHARES[i].0)).sum();
-        let (count, (guarantee, limit)) = (self.count(customer), SHARES[customer]);
+        let s: usize = (0..2).map(|i| self.count(i).max(self.shares[i].0)).sum();
+        let (count, (guarantee, limit)) = (self.count(customer), self.shares[customer]);
         if self.entries.contains(entry) {
             21
         } else if pair.clone().any(|e| e.3 == entry.3) {
             31
         } else if pair.any(|e| e.2 == entry.2) {
             30
-        } else if count == limit || (count >= guarantee && s == 64) {
+        } else if count == limit || (count >= guarantee && s == self.total) {
             34
         } else {
             20
@@ -68,7 +78,9 @@ impl Ledger {
 fn step(dice: &mut Dice, tested: &mut TestNode, ledger: &mut Ledger) -> u8 {
     let customer = usize::from(dice.below(3) > 0);
     let sender = CUSTOMERS[customer];
-    let id = 1 + dice.below(70) as u16;
+    // Somewhat more IDs than calls.
+    let ids = ledger.total as u64 + 6;
+    let id = 1 + dice.below(ids) as u16;
     let lsp = dice.below(6) as u16;
     match dice.below(10) {
         0 => return tested.ask(&path(sender, 0, lsp)),
@@ -78,7 +90,7 @@ fn step(dice: &mut Dice, tested: &mut TestNode, ledger: &mut Ledger) -> u8 {
     }
     // Mostly the name that goes with the ID.
     let name = match dice.below(6) {
-        0 => vec![b'n', 1 + dice.below(70) as u8],
+        0 => vec![b'n', 1 + dice.below(ids) as u8],
         _ => vec![b'n', id as u8],
     };
     let entry = (END, sender, id, name);
@@ -96,14 +108,28 @@ fn step(dice: &mut Dice, tested: &mut TestNode, ledger: &mut Ledger) -> u8 {
 
 #[test]
 fn the_ledger_agrees() {
-    let mut seen = [0usize; 64];
-    for seed in 1..=6u64 {
+    agrees(6, 1500, &roster(&[(X, 1, 8), (Y, 58, 60)]), || {
+        Ledger::new([(1, 8), (58, 60)], 64)
+    });
+}
+
+#[test]
+fn the_ledger_agrees_in_form_2() {
+    agrees(2, 3000, &roster_2(&[(X, 1, 8), (Y, 194, 196)]), || {
+        Ledger::new([(1, 8), (194, 196)], 200)
+    });
+}
+
+fn agrees(seeds: u64, messages: usize, roster: &[u8], ledger: fn() -> Ledger) {
+    let (mut seen, mut full) = ([0usize; 64], 0);
+    for seed in 1..=seeds {
         let mut dice = Dice(seed.wrapping_mul(0x9e37_79b9_7f4a_7c15));
-        let mut tested = TestNode::new(&[(X, 1, 8), (Y, 58, 60)]);
-        let mut ledger = Ledger::default();
-        for _ in 0..1500 {
+        let mut tested = TestNode::of(roster);
+        let mut ledger = ledger();
+        for _ in 0..messages {
             let answer = step(&mut dice, &mut tested, &mut ledger);
             seen[usize::from(answer)] += 1;
+            full += usize::from(answer == 34 && tested.s() == ledger.total);
             for customer in 0..2 {
                 let count = ledger.count(customer);
                 assert_eq!(ledger.opened[customer], count + ledger.closed[customer]);
@@ -115,6 +141,7 @@ fn the_ledger_agrees() {
     for answer in [14, 15, 20, 21, 22, 23, 24, 25, 30, 31, 32, 33, 34, 35, 37] {
         assert!(seen[answer] > 0, "answer {answer} came up");
     }
+    assert!(full > 0, "a setup without room came up");
 }
 
 #[test]

@@ -1,8 +1,7 @@
 -- `open_call`: each return has the tests of its answer; where a call may be opened a slot is free.
 use native.Mathlib.Omega.{arith}
-use mathlib.Core.Path.{_≡_, sym, ap, _∙_}
+use mathlib.Core.Path.{sym, _∙_}
 use Rattle.messages.specs.declared.message.Message.the-variants.{Open}
-use Rattle.table.specs.Word.{lowestFree}
 use Rattle.table.specs.Words.{tableOf}
 use Rattle.answers.specs.declared.answer.Answer.the-variants.{CallAlreadyOpen, DuplicateCall, CallIdContention, NoShare, CallOpened}
 use Rattle.spec_calls.specs.CallRules.{idsIn}
@@ -12,6 +11,7 @@ use Rattle.find_call.proofs.Looks.{found}
 use Rattle.outcomes.proofs.Ruled.{ruled-by}
 use Rattle.answer_call.proofs.Sent.{opened-sent, sent-from}
 use borrow.Author.Needs.{needs}
+use Rattle.table.proofs.Within.{total-most}
 use Rattle.answer_call.proofs.open_call.Statement.{statement}
 use Rattle.answer_call.proofs.open_call.Tie as tie
 
@@ -84,23 +84,19 @@ returns-4 c =
     (sym (c .before .before .before .before .before .before .share-used-up .ensures) ∙ c .before .before .before .before .before .if4 .taken))
     (n .answer) (n .length) (n .table) (n .reply)
 
-occupied-requires : tie.Need-occupied-requires
-occupied-requires c κs = search needs
-
 lowest-free-requires : tie.Need-lowest-free-requires
 lowest-free-requires c κs = search needs
 
 open-slot-requires : tie.Need-open-slot-requires
 open-slot-requires c κs =
-    let w = c .before .before in
-    let d = w .before .before in
+    let d = c .before .before .before in
     let z = d .before .before .before .before .before .before .before .before .before .before in
     let p = z .pre in
     let f = found _ _ _ (d .before .before .before .before .before .before .look-up .ensures) in
     let e = open-new _ _ _ _ (sym (f .known) ∙ d .before .before .before .before .before .if1 .left) (sym (f .long) ∙ d .before .before .before .before .if2 .left) (sym (f .short) ∙ d .before .before .before .if3 .left)
     (sym (d .before .share-used-up .ensures) ∙ d .if4 .left) in
-    let slot : c .before .lowest-free .result ≡ lowestFree (tableOf (z .args .t .now) .occupied) = c .before .lowest-free .ensures ∙ ap lowestFree (w .occupied .ensures) in
-    (p .2 .name, p .2 .nameMost, slot, rw slot (open-room _ _ (p .0) (p .1) e))
+    let slot = c .before .lowest-free .ensures in
+    (p .2 .name, p .2 .nameMost, slot, rw slot (omega (arith, open-room _ _ (p .0) (p .1) e, total-most (tableOf (z .args .t .now) .form))))
 
 notified-requires-5 : tie.Need-notified-requires-5
 notified-requires-5 c κs = search needs
@@ -111,7 +107,7 @@ same-length-5 c = search needs
 returns-5 : tie.Need-returns-5
 returns-5 c =
     let o = c .before .before .before .before .before in
-    let d = o .before .before .before .before .before in
+    let d = o .before .before .before .before in
     let z = d .before .before .before .before .before .before .before .before .before .before in
     let t = tableOf (z .args .t .now) in
     let q = z .args .q in
@@ -142,7 +138,6 @@ open-call-spec =
     notified-requires-4
     same-length-4
     returns-4
-    occupied-requires
     lowest-free-requires
     open-slot-requires
     notified-requires-5

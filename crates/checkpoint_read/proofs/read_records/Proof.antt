@@ -1,5 +1,9 @@
 -- `read_records` meets its contract: the callees' promises, one put into the other.
+use mathlib.Core.Path.{ap, _∙_}
+use Rattle.table.specs.Rules.{holds, slotsWithinTotal, rulesHold}
 use Rattle.table.specs.Words.{tableOf}
+use Rattle.table.proofs.Within.{rules-within}
+use Rattle.checkpoint_read.proofs.Turns.{calls-rules, connections-within}
 use Rattle.checkpoint_read.proofs.Answered.{read-is}
 use borrow.Author.Needs.{needs}
 use Rattle.checkpoint_read.proofs.read_records.Statement.{statement}
@@ -12,7 +16,14 @@ with-connections-requires : tie.Need-with-connections-requires
 with-connections-requires c κs = search needs
 
 open-calls-requires : tie.Need-open-calls-requires
-open-calls-requires c κs = search needs
+open-calls-requires c κs =
+    let w = c .before in
+    let v = w .before .before in
+    let z = v .before .before .before in
+    let s = z .args .s .now in
+    let fresh = tableOf (z .args .t .now) in
+    ap (λ t. holds slotsWithinTotal t) (w .with-connections .ensures)
+    ∙ connections-within _ s (rules-within _ (ap rulesHold (v .with-calls .ensures) ∙ calls-rules fresh s (z .pre .2) (z .args .calls))) (z .args .connections)
 
 cast-rest : tie.Need-cast-rest
 cast-rest c = search needs

@@ -1,6 +1,7 @@
 -- `checkpoint_size` meets its contract: a checkpoint's length is that of its parts.
 use native.Mathlib.Omega.{arith}
 use Rattle.table.specs.Words.{tableOf}
+use Rattle.table.proofs.Within.{rules-within}
 use Rattle.checkpoint_write.proofs.Parts.{calls-length}
 use Rattle.checkpoint_write.proofs.Checkpoint.{checkpoint-length}
 use borrow.Author.Needs.{needs}
@@ -8,7 +9,7 @@ use Rattle.checkpoint_write.proofs.checkpoint_size.Statement.{statement
 use Rattle.checkpoint_write.proofs.checkpoint_size.Tie as tie
 
 open-calls-requires : tie.Need-open-calls-requires
-open-calls-requires c κs = search needs
+open-calls-requires c κs = rules-within (tableOf (c .args .t .now)) (c .pre)
 
 cast-result : tie.Need-cast-result
 cast-result c = search needs

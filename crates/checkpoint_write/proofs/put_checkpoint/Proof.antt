@@ -5,8 +5,9 @@ use borrow.Author.Needs.{needs}
 use Rattle.replies.proofs.Written.{tail-length}
 use Rattle.lists.specs.Below.{below}
 use Rattle.table.specs.Lists.{heldAt, standaloneAt}
-use Rattle.table.specs.Total.{totalOf}
+use Rattle.table.specs.Total.{slots}
 use Rattle.table.specs.Words.{tableOf}
+use Rattle.table.proofs.Within.{rules-within}
 use Rattle.spec_changes.proofs.Slot.{open-most}
 use Rattle.checkpoint_write.specs.Bytes.{heldBytes, callsBytes}
 use Rattle.checkpoint_records.proofs.Behind.{more}
@@ -15,7 +16,9 @@ use Rattle.checkpoint_write.proofs.put_checkpoint.Statement.{statement}
 use Rattle.checkpoint_write.proofs.put_checkpoint.Tie as tie
 
 open-calls-requires : tie.Need-open-calls-requires
-open-calls-requires c κs = search needs
+open-calls-requires c κs =
+    let z = c .before in
+    rules-within (tableOf (z .args .t .now)) (z .pre .0)
 
 cast-open : tie.Need-cast-open
 cast-open c = omega (arith, open-most (tableOf (c .before .before .args .t .now)))
@@ -83,7 +86,7 @@ returns c =
     let t = tableOf (s .args .t .now) in
     let w1 = c .before .before .before .before .before .before .before .before .before .before .before .before .before .before .put-head .ensures in
     let w2 = more (callsBytes t) w1 (omega (arith, checkpoint-fits t _ (s .pre .1))) (c .before .before .before .before .before .before .before .before .before .before .put-calls .ensures) in
-    let w3 = more (heldBytes (below (heldAt t) (totalOf t))) w2 (simp length-append (omega (arith, checkpoint-fits t _ (s .pre .1)))) (c .before .before .before .before .before .before .put-under-calls .ensures) in
+    let w3 = more (heldBytes (below (heldAt t) slots)) w2 (simp length-append (omega (arith, checkpoint-fits t _ (s .pre .1)))) (c .before .before .before .before .before .before .put-under-calls .ensures) in
     let w4 = more (heldBytes (below (standaloneAt t) 8)) w3 (simp length-append (omega (arith, checkpoint-fits t _ (s .pre .1)))) (c .before .before .put-with-no-call .ensures) in
     checkpoint-put t _ _ (c .before .before .before .before .before .before .before .before .before .before .before .before .before .before .before .before .before .open-calls .ensures) (c .before .before .before .before .before .before .before .before .before .before .before .before .before .before .before .before .connections-held .ensures .0) w4
 

@@ -18,7 +18,7 @@ returns c =
     rw (written-broken (tableOf (s .args .t .now)) (now (s .args .out)) (sym (c .before .rules-hold .ensures) ∙ not-true _ (c .if1 .taken))) (refl, refl, refl)
 
 checkpoint-size-requires : tie.Need-checkpoint-size-requires
-checkpoint-size-requires c κs = search needs
+checkpoint-size-requires c κs = sym (c .before .rules-hold .ensures) ∙ not-false _ (c .if1 .left)
 
 returns-2 : tie.Need-returns-2
 returns-2 c =

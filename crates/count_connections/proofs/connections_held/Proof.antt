@@ -5,7 +5,7 @@ use mathlib.Core.Bool.{true}
 use borrow.Author.Needs.{needs}
 use Rattle.lists.specs.Below.{below}
 use Rattle.lists.proofs.Count.{count-append, count-all}
-use Rattle.table.specs.Total.{totalOf}
+use Rattle.table.specs.Total.{slots}
 use Rattle.table.specs.Lists.{heldAt, standaloneAt, held}
 use Rattle.table.specs.Words.{tableOf}
 use Rattle.count_connections.proofs.connections_held.Statement.{statement}
@@ -24,7 +24,7 @@ returns : tie.Need-returns
 returns c =
     let t = tableOf (c .before .before .args .t .now) in (
       rw (c .held-standalone .ensures .0, c .before .held-under-calls .ensures .0)
-          (sym (count-append (λ x. true) (below (heldAt t) (totalOf t)) (below (standaloneAt t) 8)) ∙ count-all (held t)),
+          (sym (count-append (λ x. true) (below (heldAt t) slots) (below (standaloneAt t) 8)) ∙ count-all (held t)),
       omega arith,
     )
 

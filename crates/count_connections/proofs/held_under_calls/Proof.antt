@@ -7,20 +7,17 @@ use borrow.Author.Needs.{needs}
 use Rattle.lists.specs.Below.{below}
 use Rattle.lists.specs.Count.{countIf}
 use Rattle.lists.proofs.Below.{count-none, count-turns}
-use Rattle.table.specs.Total.{total}
+use Rattle.table.specs.Total.{slots}
 use Rattle.table.specs.Lists.{heldAt}
 use Rattle.table.specs.Words.{tableOf}
 use Rattle.count_connections.proofs.held_under_calls.Statement.{statement}
 use Rattle.count_connections.proofs.held_under_calls.Tie as tie
 
 abbrev Inv-loop : tie.InvT-loop
-Inv-loop t word n₀ i₀ n i = (i ≤ total) × (n ≤ 4 * i) × (n ≡ countIf (λ x. true) (below (heldAt (tableOf t)) i))
+Inv-loop t n₀ i₀ n i = (i ≤ slots) × (n ≤ 4 * i) × (n ≡ countIf (λ x. true) (below (heldAt (tableOf t)) i))
 
 abbrev μ-loop : tie.MeasureT-loop
-μ-loop t word n₀ i₀ n i = total - i
-
-occupied-requires : tie.Need-occupied-requires Inv-loop μ-loop
-occupied-requires c κs = search needs
+μ-loop t n₀ i₀ n i = slots - i
 
 loop-holds : tie.Need-loop-holds Inv-loop μ-loop
 loop-holds c = (omega arith, omega arith, sym (count-none _ _))
@@ -41,11 +38,11 @@ loop-again : tie.Need-loop-again Inv-loop μ-loop
 loop-again c =
     let l = c .before .before in
     let e = c .taken-in-slot .ensures in
-    (omega arith, omega (arith, e .1), count-turns _ _ _ _ _ _ _ refl (l .loop .inv .2) (rw (← (l .before .occupied .ensures)) (e .0)))
+    (omega arith, omega (arith, e .1), count-turns _ _ _ _ _ _ _ refl (l .loop .inv .2) (e .0))
 
 returns : tie.Need-returns Inv-loop μ-loop
 returns c =
-    let e : c .before .loop .i ≡ total = omega arith in
+    let e : c .before .loop .i ≡ slots = omega arith in
     (rw e at (c .before .loop .inv .2), omega arith)
 
 pub held-under-calls-spec : {M : Type 1} → statement M
@@ -54,7 +51,6 @@ held-under-calls-spec =
     (tie.spec
     Inv-loop
     μ-loop
-    occupied-requires
     loop-holds
     taken-in-slot-requires
     add-n

@@ -1,30 +1,27 @@
 -- `print_table` is safe and ends: the slots, and the customers.
 use Prim.Native.Nat.{_≤_, _-_}
 use borrow.Author.Needs.{needs}
-use Rattle.table.specs.Total.{total}
+use Rattle.table.specs.Total.{slots}
 use Rattle.restore.proofs.print_table.Statement.{statement}
 use Rattle.restore.proofs.print_table.Tie as tie
 
 abbrev Inv-loop : tie.InvT-loop
-Inv-loop t word i₀ i = i ≤ total
+Inv-loop t i₀ i = i ≤ slots
 
 abbrev μ-loop : tie.MeasureT-loop
-μ-loop t word i₀ i = total - i
+μ-loop t i₀ i = slots - i
 
 abbrev Inv-loop2 : tie.InvT-loop2
-Inv-loop2 t word i m₀ m = m ≤ total
+Inv-loop2 t i m₀ m = m ≤ slots
 
 abbrev μ-loop2 : tie.MeasureT-loop2
-μ-loop2 t word i m₀ m = total - m
+μ-loop2 t i m₀ m = slots - m
 
 abbrev Inv-loop3 : tie.InvT-loop3
-Inv-loop3 t word i m k₀ k = k ≤ 8
+Inv-loop3 t i m k₀ k = k ≤ 8
 
 abbrev μ-loop3 : tie.MeasureT-loop3
-μ-loop3 t word i m k₀ k = 8 - k
-
-occupied-requires : tie.Need-occupied-requires Inv-loop μ-loop Inv-loop2 μ-loop2 Inv-loop3 μ-loop3
-occupied-requires c κs = search needs
+μ-loop3 t i m k₀ k = 8 - k
 
 loop-holds : tie.Need-loop-holds Inv-loop μ-loop Inv-loop2 μ-loop2 Inv-loop3 μ-loop3
 loop-holds c = search needs
@@ -95,7 +92,6 @@ print-table-spec =
     μ-loop2
     Inv-loop3
     μ-loop3
-    occupied-requires
     loop-holds
     is-used-requires
     print-call-requires

@@ -1,18 +1,18 @@
 -- `put_roster` meets its contract: after `k` turns the first `k` records are in.
 use Prim.Native.Nat.{_≤_, _-_}
-use native.Mathlib.Omega.{arith}
 use mathlib.Core.Path.{_≡_, _∙_}
-use borrow.Author.Needs.{needs}
 use Rattle.table.specs.Words.{tableOf}
 use Rattle.rosters.proofs.Records.{taking, taking-none, taking-turn, taking-all}
+use native.Mathlib.Omega.{arith}
+use borrow.Author.Needs.{needs}
 use Rattle.rosters.proofs.put_roster.Statement.{statement}
 use Rattle.rosters.proofs.put_roster.Tie as tie
 
 abbrev Inv-loop : tie.InvT-loop
-Inv-loop t₀ s n countIf k₀ t k = (k ≤ n) × (tableOf t ≡ taking s k)
+Inv-loop t₀ s form n count k₀ t k = (k ≤ n) × (tableOf t ≡ taking s k)
 
 abbrev μ-loop : tie.MeasureT-loop
-μ-loop t₀ s n countIf k₀ t k = n - k
+μ-loop t₀ s form n count k₀ t k = n - k
 
 loop-holds : tie.Need-loop-holds Inv-loop μ-loop
 loop-holds c = (omega arith, c .before .pre .0 ∙ taking-none _)
@@ -45,7 +45,8 @@ returns c =
     let l = c .before .before .before .before .before in
     let z = l .before .before in
     let e : l .loop .k ≡ z .args .n = omega arith in
-    c .set-roster .ensures ∙ taking-all _ (z .args .s .now) _ _ (z .args .n) (rw e at (l .loop .inv .1)) (c .before .before .get32 .ensures) (c .before .get24 .ensures) (z .pre .1)
+    c .set-roster .ensures
+    ∙ taking-all _ (z .args .s .now) _ _ _ (z .args .n) (rw e at (l .loop .inv .1)) (c .before .before .get32 .ensures) (c .before .get24 .ensures) (z .pre .1) (z .pre .2)
 
 pub put-roster-spec : {M : Type 1} → statement M
 put-roster-spec =

@@ -15,11 +15,11 @@ returns : tie.Need-returns
 unfolding rosterAnswer tableFor
 returns c = rw (lt-ltb _ _ (c .if1 .taken)) (refl, c .before .clear-table .ensures)
 
+shared-slice-read-form : tie.Need-shared-slice-read-form
+shared-slice-read-form c = search needs
+
 shared-slice-read-n : tie.Need-shared-slice-read-n
 shared-slice-read-n c = search needs
-
-shared-slice-read-if2 : tie.Need-shared-slice-read-if2
-shared-slice-read-if2 c = search needs
 
 returns-2 : tie.Need-returns-2
 unfolding rosterAnswer badForm tableFor
@@ -44,7 +44,7 @@ returns-3 c =
 
 records-answer-requires : tie.Need-records-answer-requires
 unfolding badForm
-records-answer-requires c κs = (refl, (good-count (c .before .before .before .before .before .before .before .before .args .s .now) (c .before .if2 .left)) .1, c .if3 .left)
+records-answer-requires c κs = (refl, refl, (good-count (c .before .before .before .before .before .before .before .before .args .s .now) (c .before .if2 .left)) .1, c .if3 .left)
 
 roster-number-requires : tie.Need-roster-number-requires
 roster-number-requires c κs = search needs
@@ -54,7 +54,7 @@ unfolding badForm
 put-roster-requires c κs =
     let f = c .before .before .before .before in
     let g = f .before .before .before .before .before in
-    (g .clear-table .ensures, refl, (good-count (g .before .before .before .args .s .now) (f .before .if2 .left)) .1, f .if3 .left)
+    (g .clear-table .ensures, refl, refl, (good-count (g .before .before .before .args .s .now) (f .before .if2 .left)) .1, f .if3 .left)
 
 returns-4 : tie.Need-returns-4
 unfolding rosterAnswer badForm
@@ -80,8 +80,8 @@ read-roster-spec =
     (tie.spec
     clear-table-requires
     returns
+    shared-slice-read-form
     shared-slice-read-n
-    shared-slice-read-if2
     returns-2
     cast-if3
     mul-if3

@@ -16,14 +16,11 @@ use Rattle.rule_connections.proofs.connections_once.Statement.{statemen
 use Rattle.rule_connections.proofs.connections_once.Tie as tie
 
 abbrev Inv-loop : tie.InvT-loop
-Inv-loop t word listed once₀ k₀ once k =
+Inv-loop t listed once₀ k₀ once k =
     (k ≤ 8) × (once ≡ everyBelow (λ k. not (ltb k listed) || noTwo sameConnection (own (tableOf t) k)) k)
 
 abbrev μ-loop : tie.MeasureT-loop
-μ-loop t word listed once₀ k₀ once k = 8 - k
-
-occupied-requires : tie.Need-occupied-requires Inv-loop μ-loop
-occupied-requires c κs = search needs
+μ-loop t listed once₀ k₀ once k = 8 - k
 
 listed-requires : tie.Need-listed-requires Inv-loop μ-loop
 listed-requires c κs = search needs
@@ -46,7 +43,7 @@ loop-again c = (omega arith, every-turn _ _ _ _ (c .before .before .loop .inv .1
 returns : tie.Need-returns Inv-loop μ-loop
 returns c =
     let l = c .before .before in
-    let z = l .before .before in
+    let z = l .before in
     let e : c .before .loop .k ≡ 8 = omega arith in
     rw (l .listed .ensures) at (rw e at (c .before .loop .inv .1)) ∙ customers-once (tableOf (z .args .t .now)) (z .pre .0) (z .pre .1)
 
@@ -56,7 +53,6 @@ connections-once-spec =
     (tie.spec
     Inv-loop
     μ-loop
-    occupied-requires
     listed-requires
     loop-holds
     record-once-requires

@@ -6,7 +6,6 @@ use mathlib.Core.List.{[]}
 use borrow.Author.Needs.{needs}
 use Rattle.lists.specs.Below.{below}
 use Rattle.lists.proofs.Below.{below-none}
-use Rattle.table.specs.Word.{FreeFrom}
 use Rattle.table.specs.Words.{tableOf}
 use Rattle.table_words.specs.Fours.{fourAtWord}
 use Rattle.rule_connections.specs.Own.{ownAt}
@@ -17,13 +16,13 @@ use Rattle.rule_connections.proofs.customer_once.Statement.{statement}
 use Rattle.rule_connections.proofs.customer_once.Tie as tie
 
 abbrev Inv-loop : tie.InvT-loop
-Inv-loop t word k endpoints₀ tunnels₀ extended₀ lsps₀ g used n₀ i₀ endpoints tunnels extended lsps n i =
+Inv-loop t k endpoints₀ tunnels₀ extended₀ lsps₀ g used n₀ i₀ endpoints tunnels extended lsps n i =
     (i ≤ used)
     × (rows (g .sender) endpoints tunnels extended lsps n ≡ lspsOf (below (ownAt (tableOf t) (g .sender)) i))
     × (n ≤ 4 * i)
 
 abbrev μ-loop : tie.MeasureT-loop
-μ-loop t word k endpoints₀ tunnels₀ extended₀ lsps₀ g used n₀ i₀ endpoints tunnels extended lsps n i = used - i
+μ-loop t k endpoints₀ tunnels₀ extended₀ lsps₀ g used n₀ i₀ endpoints tunnels extended lsps n i = used - i
 
 customer-four-requires : tie.Need-customer-four-requires Inv-loop μ-loop
 customer-four-requires c κs = search needs
@@ -68,9 +67,8 @@ returns c =
     let t = z .args .t .now in
     let sender = g .customer-four .result .sender in
     let e : l .loop .i ≡ u .used-below .result = omega (arith, q .loop-test .left, l .loop .inv .0) in
-    let free : FreeFrom (tableOf t .occupied) (u .used-below .result) = rw (z .pre .0) at (u .used-below .ensures .1) in
     c .rows-once .ensures sender
-    ∙ own-once (tableOf t) (z .args .k) _ (fourAtWord t (g .customer-four .result)) _ _ (g .customer-four .ensures .0) (u .used-below .ensures .0) free
+    ∙ own-once (tableOf t) (z .args .k) _ (fourAtWord t (g .customer-four .result)) _ _ (g .customer-four .ensures .0) (u .used-below .ensures .0) (u .used-below .ensures .1)
     (rw e at (l .loop .inv .1)) (p .put-four .ensures .0)
 
 pub customer-once-spec : {M : Type 1} → statement M

@@ -1,12 +1,10 @@
 -- `put_call` meets its contract: the slot's four is that of the table.
-use Prim.Native.Nat.{ℕ}
 use native.Mathlib.Omega.{arith}
-use mathlib.Core.Path.{sym, ap, _∙_}
+use mathlib.Core.Path.{sym}
 use mathlib.Core.List.{append-nil}
 use borrow.Author.Tests.{eqb-true}
 use borrow.Author.Needs.{needs}
 use Rattle.lists.proofs.Tests.{both}
-use Rattle.table.specs.Word.{isUsed}
 use Rattle.table.specs.Words.{tableOf}
 use Rattle.table_words.proofs.Alike.{alike-held}
 use Rattle.rule_connections.proofs.Own.{slot-own, slot-other}
@@ -30,9 +28,8 @@ returns c =
     let z = f .before in
     let t = tableOf (z .args .t .now) in
     let a = f .call-four .ensures .0 in
-    let used = u .is-used .ensures ∙ ap (λ (w : ℕ). isUsed w (z .args .i)) (z .pre .2) in
     let sender = eqb-true (f .call-four .result .sender) (z .args .sender) (both (u .is-used .result) _ (b .if1 .taken) .1) in
-    (rw (slot-own t (z .args .sender) (z .args .i) _ _ used (a .sender) (b .if1 .taken), ← (alike-held _ _ a), ← sender) (c .put-four .ensures .0), c .put-four .ensures .1)
+    (rw (slot-own t (z .args .sender) (z .args .i) _ _ (u .is-used .ensures) (a .sender) (b .if1 .taken), ← (alike-held _ _ a), ← sender) (c .put-four .ensures .0), c .put-four .ensures .1)
 
 returns-2 : tie.Need-returns-2
 returns-2 c =
@@ -40,8 +37,7 @@ returns-2 c =
     let f = u .before in
     let z = f .before in
     let t = tableOf (z .args .t .now) in
-    let used = u .is-used .ensures ∙ ap (λ (w : ℕ). isUsed w (z .args .i)) (z .pre .2) in
-    (rw (slot-other t (z .args .sender) (z .args .i) _ _ used (f .call-four .ensures .0 .sender) (c .if1 .left)) (sym (append-nil _)), omega arith)
+    (rw (slot-other t (z .args .sender) (z .args .i) _ _ (u .is-used .ensures) (f .call-four .ensures .0 .sender) (c .if1 .left)) (sym (append-nil _)), omega arith)
 
 pub put-call-spec : {M : Type 1} → statement M
 put-call-spec =

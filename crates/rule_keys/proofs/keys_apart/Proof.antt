@@ -10,46 +10,42 @@ use borrow.Author.Needs.{needs}
 use borrow.Author.Tests.{eqb-false, not-true}
 use Rattle.lists.specs.Below.{listIf, below}
 use Rattle.lists.proofs.Below.{below-none}
-use Rattle.table.specs.Total.{total}
-use Rattle.table.specs.Word.{isUsed}
-use Rattle.table.specs.Lists.{callAt, customerAt, customerFour, heldIn}
+use Rattle.table.specs.Total.{slots}
+use Rattle.table.specs.Lists.{customerAt, customerFour, heldIn}
 use Rattle.table.specs.Words.{tableOf}
 use Rattle.table_words.specs.Fours.{fourAtWord}
 use Rattle.rule_keys.specs.declared.chains.Noted.{Noted}
 use Rattle.rule_keys.specs.Chains.{Listed}
-use Rattle.rule_keys.specs.Keys.{heldKeys, callKeys, callKeysAt}
+use Rattle.rule_keys.specs.Keys.{heldKeys, callKeysAt}
 use Rattle.rule_keys.proofs.Passes.{nothing-noted, pass-turn, slots-passed, customer-listed, customer-unlisted}
 use Rattle.rule_keys.proofs.keys_apart.Statement.{statement}
 use Rattle.rule_keys.proofs.keys_apart.Tie as tie
 
 abbrev Inv-loop : tie.InvT-loop
-Inv-loop t word heads₀ links₀ keys₀ noted₀ n i₀ heads links keys noted i =
+Inv-loop t heads₀ links₀ keys₀ noted₀ n i₀ heads links keys noted i =
     (i ≤ n)
     × Listed heads links keys noted
-    × (take (noted .count) keys ≡ below (λ j. listIf (isUsed word j) (callKeys (callAt (tableOf t) j))) i)
+    × (take (noted .count) keys ≡ below (callKeysAt (tableOf t)) i)
     × (noted .count ≤ 6 * i)
 
 abbrev μ-loop : tie.MeasureT-loop
-μ-loop t word heads₀ links₀ keys₀ noted₀ n i₀ heads links keys noted i = n - i
+μ-loop t heads₀ links₀ keys₀ noted₀ n i₀ heads links keys noted i = n - i
 
 abbrev Inv-loop2 : tie.InvT-loop2
-Inv-loop2 t word heads₀ links₀ keys₀ noted₀ n i listed k₀ heads links keys noted k =
+Inv-loop2 t heads₀ links₀ keys₀ noted₀ n i listed k₀ heads links keys noted k =
     (k ≤ 8)
     × Listed heads links keys noted
-    × (take (noted .count) keys ≡ below (callKeysAt (tableOf t)) total ++ below (λ j. listIf (ltb j listed) (heldKeys (heldIn (customerFour (customerAt (tableOf t) j))))) k)
-    × (noted .count ≤ 384 + 4 * k)
+    × (take (noted .count) keys ≡ below (callKeysAt (tableOf t)) slots ++ below (λ j. listIf (ltb j listed) (heldKeys (heldIn (customerFour (customerAt (tableOf t) j))))) k)
+    × (noted .count ≤ 1200 + 4 * k)
 
 abbrev μ-loop2 : tie.MeasureT-loop2
-μ-loop2 t word heads₀ links₀ keys₀ noted₀ n i listed k₀ heads links keys noted k = 8 - k
-
-occupied-requires : tie.Need-occupied-requires Inv-loop μ-loop Inv-loop2 μ-loop2
-occupied-requires c κs = search needs
+μ-loop2 t heads₀ links₀ keys₀ noted₀ n i listed k₀ heads links keys noted k = 8 - k
 
 used-below-requires : tie.Need-used-below-requires Inv-loop μ-loop Inv-loop2 μ-loop2
 used-below-requires c κs = search needs
 
 loop-holds : tie.Need-loop-holds Inv-loop μ-loop Inv-loop2 μ-loop2
-loop-holds c = (omega arith, nothing-noted 512, sym (below-none _), omega arith)
+loop-holds c = (omega arith, nothing-noted 2048, sym (below-none _), omega arith)
 
 note-slot-requires : tie.Need-note-slot-requires Inv-loop μ-loop Inv-loop2 μ-loop2
 note-slot-requires c κs = search needs
@@ -63,11 +59,9 @@ loop-less c = search needs
 loop-again : tie.Need-loop-again Inv-loop μ-loop Inv-loop2 μ-loop2
 loop-again c =
     let l = c .before .before .before .before .before in
-    let o = l .before .before in
-    let t = tableOf (o .before .args .t .now) in
-    let word = o .occupied .result in
+    let t = tableOf (l .before .before .args .t .now) in
     let e = c .note-slot .ensures in
-    (omega arith, e .0, pass-turn (λ j. listIf (isUsed word j) (callKeys (callAt t j))) (l .loop .i) [] _ _ (l .loop .inv .2) (e .1), omega arith)
+    (omega arith, e .0, pass-turn (callKeysAt t) (l .loop .i) [] _ _ (l .loop .inv .2) (e .1), omega arith)
 
 listed-requires : tie.Need-listed-requires Inv-loop μ-loop Inv-loop2 μ-loop2
 listed-requires c κs = search needs
@@ -75,11 +69,10 @@ listed-requires c κs = search needs
 loop2-holds : tie.Need-loop2-holds Inv-loop μ-loop Inv-loop2 μ-loop2
 loop2-holds c =
     let l = c .before .before in
-    let o = l .before .before in
-    let t = tableOf (o .before .args .t .now) in
+    let t = tableOf (l .before .before .args .t .now) in
     let u = l .before .used-below in
     let e : l .loop .i ≡ u .result = omega arith in
-    let p = slots-passed t (o .occupied .result) (u .result) _ (o .occupied .ensures) (u .ensures .0) (u .ensures .1) (rw e at (l .loop .inv .2)) in
+    let p = slots-passed t (u .result) _ (u .ensures .0) (u .ensures .1) (rw e at (l .loop .inv .2)) in
     (omega arith, l .loop .inv .1, rw (below-none _) (p ∙ sym (append-nil _)), omega arith)
 
 customer-four-requires : tie.Need-customer-four-requires Inv-loop μ-loop Inv-loop2 μ-loop2
@@ -98,13 +91,13 @@ loop2-again : tie.Need-loop2-again Inv-loop μ-loop Inv-loop2 μ-loop2
 loop2-again c =
     let l = c .before .before in
     let n = l .before in
-    let w = n .before .before .before .before .before .args .t .now in
+    let w = n .before .before .before .before .args .t .now in
     let t = tableOf w in
     let listed = n .listed .result in
     let k = l .loop2 .k in
     let i = l .loop2 .inv in
     let m = take (l .loop2 .noted .count) (l .loop2 .keys) in
-    let turn = pass-turn (λ j. listIf (ltb j listed) (heldKeys (heldIn (customerFour (customerAt t j))))) k (below (callKeysAt t) total) m in
+    let turn = pass-turn (λ j. listIf (ltb j listed) (heldKeys (heldIn (customerFour (customerAt t j))))) k (below (callKeysAt t) slots) m in
     ⊎-elim
     (λ y.
     let e = y .5 .ensures in
@@ -132,7 +125,6 @@ keys-apart-spec =
     μ-loop
     Inv-loop2
     μ-loop2
-    occupied-requires
     used-below-requires
     loop-holds
     note-slot-requires

@@ -14,6 +14,7 @@ use Rattle.lists.proofs.Pairs.{pairs-none, inner-turn, outer-turn, no-two-place
 use Rattle.table.specs.Table.{Table}
 use Rattle.table.specs.Lists.{Terms, customerAt, termsOf, listedAt}
 use Rattle.table.specs.Rules.{badShare, sameAddress, acceptable}
+use Rattle.table.specs.Total.{totalFor}
 use Rattle.table.specs.Words.{tableOf}
 use Rattle.table_words.specs.Heads.{customerHeadOf}
 use Rattle.table_words.specs.declared.customers.CustomerHead.{CustomerHead}
@@ -30,18 +31,24 @@ other-heads : (t : Table) (listed j k : ℕ) (c d : CustomerHead) → listed ≡
 other-heads t listed j k c d n a b = rw (n, a, b)
 
 abbrev Inv-loop2 : tie.InvT-loop2
-Inv-loop2 t listed bad apart₀ sum k c j₀ apart j = (j ≤ k) × (apart ≡ (apart₀ && everyBelow (otherAddress (tableOf t) k) j))
+Inv-loop2 t total listed bad apart₀ sum k c j₀ apart j = (j ≤ k) × (apart ≡ (apart₀ && everyBelow (otherAddress (tableOf t) k) j))
 
 abbrev μ-loop2 : tie.MeasureT-loop2
-μ-loop2 t listed bad apart₀ sum k c j₀ apart j = k - j
+μ-loop2 t total listed bad apart₀ sum k c j₀ apart j = k - j
 
 abbrev Inv-loop : tie.InvT-loop
-Inv-loop t listed bad₀ apart₀ sum₀ k₀ bad apart sum k =
-    (k ≤ 8) × (sum ≤ 4294967295 * k) × (bad ≡ has (badShare 64) (below (listedAt (tableOf t)) k)) × (apart ≡ pairsBelow (otherAddress (tableOf t)) k)
+Inv-loop t total listed bad₀ apart₀ sum₀ k₀ bad apart sum k =
+    (k ≤ 8) × (sum ≤ 4294967295 * k) × (bad ≡ has (badShare total) (below (listedAt (tableOf t)) k)) × (apart ≡ pairsBelow (otherAddress (tableOf t)) k)
     × (sum ≡ sumOf (λ (c : Terms). c .guarantee) (below (listedAt (tableOf t)) k))
 
 abbrev μ-loop : tie.MeasureT-loop
-μ-loop t listed bad₀ apart₀ sum₀ k₀ bad apart sum k = 8 - k
+μ-loop t total listed bad₀ apart₀ sum₀ k₀ bad apart sum k = 8 - k
+
+form-requires : tie.Need-form-requires Inv-loop2 μ-loop2 Inv-loop μ-loop
+form-requires c κs = search needs
+
+total-for-requires : tie.Need-total-for-requires Inv-loop2 μ-loop2 Inv-loop μ-loop
+total-for-requires c κs = search needs
 
 listed-requires : tie.Need-listed-requires Inv-loop2 μ-loop2 Inv-loop μ-loop
 listed-requires c κs = search needs
@@ -69,7 +76,7 @@ loop2-again c =
     let d = c .before .before in
     let l = d .before .before in
     let a = l .before .before .before in
-    let t = tableOf (a .before .before .args .t .now) in
+    let t = tableOf (a .before .before .before .before .args .t .now) in
     (omega arith, inner-turn (otherAddress t (a .loop .k)) (l .loop2 .j) _ (a .loop .apart) _ (l .loop2 .inv .1) (other-heads t _ (l .loop2 .j) (a .loop .k) _ _ (a .before .listed .ensures) (l .before .customer-head .ensures .0) (d .customer-head2 .ensures .0)))
 
 bad-share-requires : tie.Need-bad-share-requires Inv-loop2 μ-loop2 Inv-loop μ-loop
@@ -106,12 +113,14 @@ loop-again c =
 returns : tie.Need-returns Inv-loop2 μ-loop2 Inv-loop μ-loop
 unfolding acceptable
 returns c =
-    let t = tableOf (c .before .before .before .args .t .now) in
+    let l = c .before .before in
+    let t = tableOf (l .before .before .before .args .t .now) in
+    let total = l .before .total-for .ensures .0 ∙ ap totalFor (l .before .before .form .ensures) in
     let e : c .before .loop .k ≡ 8 = omega arith in
     let bad = rw e at (c .before .loop .inv .2) in
     let apart = rw e at (c .before .loop .inv .3) in
     let sum = rw e at (c .before .loop .inv .4) in
-    rw (bad, apart, sum, no-two-places sameAddress (λ (k : ℕ). ltb k (t .listed)) (λ (k : ℕ). termsOf (customerAt t k)) 8)
+    rw (bad, apart, sum, total, no-two-places sameAddress (λ (k : ℕ). ltb k (t .listed)) (λ (k : ℕ). termsOf (customerAt t k)) 8)
 
 pub is-acceptable-spec : {M : Type 1} → statement M
 is-acceptable-spec =
@@ -121,6 +130,8 @@ is-acceptable-spec =
     μ-loop2
     Inv-loop
     μ-loop
+    form-requires
+    total-for-requires
     listed-requires
     loop-holds
     customer-head-requires

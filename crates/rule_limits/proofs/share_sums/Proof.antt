@@ -6,7 +6,7 @@ use borrow.Author.Needs.{needs, fits-under}
 use Rattle.lists.specs.Count.{has, sumOf}
 use Rattle.lists.specs.Below.{below}
 use Rattle.lists.proofs.Below.{has-none, has-turn, sum-none, sum-turn}
-use Rattle.table.specs.Total.{total}
+use Rattle.table.specs.Total.{slots}
 use Rattle.table.specs.Lists.{Terms, listedAt, entries}
 use Rattle.table.specs.Share.{callsOf, S}
 use Rattle.table.specs.Rules.{overLimit}
@@ -17,7 +17,7 @@ use Rattle.rule_limits.proofs.share_sums.Tie as tie
 
 abbrev Inv-loop : tie.InvT-loop
 Inv-loop t listed counts over₀ sum₀ known₀ k₀ over sum known k =
-    (k ≤ 8) × (sum ≤ 4294967295 * k) × (known ≤ total * k) × (over ≡ has (overLimit (entries (tableOf t))) (below (listedAt (tableOf t)) k))
+    (k ≤ 8) × (sum ≤ 4294967295 * k) × (known ≤ slots * k) × (over ≡ has (overLimit (entries (tableOf t))) (below (listedAt (tableOf t)) k))
     × (sum ≡ sumOf (λ c. max (callsOf (entries (tableOf t)) (c .address)) (c .guarantee)) (below (listedAt (tableOf t)) k))
     × (known ≡ sumOf (λ (c : Terms). callsOf (entries (tableOf t)) (c .address)) (below (listedAt (tableOf t)) k))
 
@@ -46,7 +46,7 @@ cast-calls : tie.Need-cast-calls Inv-loop μ-loop
 cast-calls c =
     let l = c .before .before in
     let n = each-calls (tableOf (l .before .before .before .before .args .t .now)) _ (l .loop .k) (l .before .count-calls .ensures) (omega arith) in
-    fits-under _ _ 65 (omega (arith, n .1)) _
+    fits-under _ _ 201 (omega (arith, n .1)) _
 
 larger-requires : tie.Need-larger-requires Inv-loop μ-loop
 larger-requires c κs = search needs

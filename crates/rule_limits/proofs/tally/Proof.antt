@@ -50,7 +50,7 @@ add-counts c =
     let z = c .before .before .before .before in
     let here = eqb (getD (z .args .addresses .now) (l .k) 0) (z .args .sender) in
     let e = fill-left _ _ 8 (l .k) (l .k) _ 0 (omega arith) (omega arith) (l .inv .1) in
-    fits-under _ _ 65 (omega (arith, e, z .pre .1 (l .k) (omega arith), as-bit here, one-bit here)) _
+    fits-under _ _ 201 (omega (arith, e, z .pre .1 (l .k) (omega arith), as-bit here, one-bit here)) _
 
 mul-counts-2 : tie.Need-mul-counts-2 Inv-loop μ-loop
 mul-counts-2 c = search needs

@@ -11,10 +11,10 @@ use Rattle.rule_uniqueness.proofs.apart_from_earlier.Statement.{stateme
 use Rattle.rule_uniqueness.proofs.apart_from_earlier.Tie as tie
 
 abbrev Inv-loop : tie.InvT-loop
-Inv-loop t word i used apart₀ j₀ apart j = (j ≤ i) × (apart ≡ everyBelow (apartAt word (tableOf t) i) j)
+Inv-loop t i used apart₀ j₀ apart j = (j ≤ i) × (apart ≡ everyBelow (apartAt (tableOf t) i) j)
 
 abbrev μ-loop : tie.MeasureT-loop
-μ-loop t word i used apart₀ j₀ apart j = i - j
+μ-loop t i used apart₀ j₀ apart j = i - j
 
 is-used-requires : tie.Need-is-used-requires Inv-loop μ-loop
 is-used-requires c κs = search needs

@@ -7,7 +7,7 @@ use mathlib.Core.Bool.{and-false}
 use borrow.Author.Needs.{needs}
 use Rattle.lists.specs.Pairs.{pairsBelow}
 use Rattle.lists.proofs.Pairs.{pairs-none, outer-turn, pairs-rest}
-use Rattle.table.specs.Total.{total}
+use Rattle.table.specs.Total.{slots}
 use Rattle.table.specs.Words.{tableOf}
 use Rattle.rule_uniqueness.specs.Conflict.{apartAt}
 use Rattle.rule_uniqueness.proofs.Names.{names-end}
@@ -16,13 +16,10 @@ use Rattle.rule_uniqueness.proofs.ids_once.Statement.{statement}
 use Rattle.rule_uniqueness.proofs.ids_once.Tie as tie
 
 abbrev Inv-loop : tie.InvT-loop
-Inv-loop t word n apart₀ i₀ apart i = (i ≤ n) × (apart ≡ pairsBelow (apartAt word (tableOf t)) i)
+Inv-loop t n apart₀ i₀ apart i = (i ≤ n) × (apart ≡ pairsBelow (apartAt (tableOf t)) i)
 
 abbrev μ-loop : tie.MeasureT-loop
-μ-loop t word n apart₀ i₀ apart i = n - i
-
-occupied-requires : tie.Need-occupied-requires Inv-loop μ-loop
-occupied-requires c κs = search needs
+μ-loop t n apart₀ i₀ apart i = n - i
 
 used-below-requires : tie.Need-used-below-requires Inv-loop μ-loop
 used-below-requires c κs = search needs
@@ -33,7 +30,7 @@ loop-holds c = (omega arith, sym (pairs-none _))
 apart-from-earlier-requires : tie.Need-apart-from-earlier-requires Inv-loop μ-loop
 apart-from-earlier-requires c κs =
     let u = c .before .before in
-    let z = u .before .before in
+    let z = u .before in
     (omega (arith, u .used-below .ensures .0), names-end (tableOf (z .args .t .now)) (z .pre .0) (z .pre .1))
 
 add-i : tie.Need-add-i Inv-loop μ-loop
@@ -50,12 +47,11 @@ loop-again c =
 returns : tie.Need-returns Inv-loop μ-loop
 returns c =
     let u = c .before .before in
-    let word = u .before .occupied .result in
-    let t = tableOf (u .before .before .args .t .now) in
+    let t = tableOf (u .before .args .t .now) in
     let n = u .used-below .result in
     let e : c .before .loop .i ≡ n = omega arith in
-    let rest = pairs-rest (apartAt word t) n total (u .used-below .ensures .0) (λ i j l. rw (u .used-below .ensures .1 i l, and-false _)) in
-    rw (u .before .occupied .ensures) at (rw e at (c .before .loop .inv .1) ∙ sym rest) ∙ slots-apart _ _ _ _ total
+    let rest = pairs-rest (apartAt t) n slots (u .used-below .ensures .0) (λ i j l m. rw (u .used-below .ensures .1 i l m, and-false _)) in
+    rw e at (c .before .loop .inv .1) ∙ sym rest ∙ slots-apart _ _ _ _ slots
 
 pub ids-once-spec : {M : Type 1} → statement M
 ids-once-spec =
@@ -63,7 +59,6 @@ ids-once-spec =
     (tie.spec
     Inv-loop
     μ-loop
-    occupied-requires
     used-below-requires
     loop-holds
     apart-from-earlier-requires

@@ -2,7 +2,7 @@
 use mathlib.Core.Bool.{and-assoc}
 use borrow.Author.Needs.{needs}
 use Rattle.lists.specs.Below.{everyBelow}
-use Rattle.table.specs.Total.{totalOf}
+use Rattle.table.specs.Total.{slots}
 use Rattle.table.specs.Rules.{slotFreeClear, recordFreeClear, holds, namesAndIds}
 use Rattle.table.specs.Words.{tableOf}
 use Rattle.rule_zeros.proofs.names_and_zeros.Statement.{statement}
@@ -18,7 +18,7 @@ returns : tie.Need-returns
 returns c =
     let t = tableOf (c .before .before .args .t .now) in
     rw (c .before .slots-tidy .ensures, c .records-free-clear .ensures)
-    (and-assoc (holds namesAndIds t) (everyBelow (slotFreeClear t) (totalOf t)) (everyBelow (recordFreeClear t) 8))
+    (and-assoc (holds namesAndIds t) (everyBelow (slotFreeClear t) slots) (everyBelow (recordFreeClear t) 8))
 
 pub names-and-zeros-spec : {M : Type 1} → statement M
 names-and-zeros-spec = tie.close (tie.spec slots-tidy-requires records-free-clear-requires returns)

@@ -5,20 +5,16 @@ use mathlib.Core.Path.{_≡_, refl, sym}
 use borrow.Author.Needs.{needs}
 use Rattle.lists.specs.Below.{everyBelow}
 use Rattle.lists.proofs.Below.{every-none, every-turn}
-use Rattle.table.specs.Word.{FreeFrom}
 use Rattle.table.specs.Words.{tableOf}
 use Rattle.rule_zeros.proofs.Free.{slotTidy, slots-tidy}
 use Rattle.rule_zeros.proofs.slots_tidy.Statement.{statement}
 use Rattle.rule_zeros.proofs.slots_tidy.Tie as tie
 
 abbrev Inv-loop : tie.InvT-loop
-Inv-loop t masks word n tidy₀ i₀ tidy i = (i ≤ n) × (tidy ≡ everyBelow (slotTidy (tableOf t)) i)
+Inv-loop t masks n tidy₀ i₀ tidy i = (i ≤ n) × (tidy ≡ everyBelow (slotTidy (tableOf t)) i)
 
 abbrev μ-loop : tie.MeasureT-loop
-μ-loop t masks word n tidy₀ i₀ tidy i = n - i
-
-occupied-requires : tie.Need-occupied-requires Inv-loop μ-loop
-occupied-requires c κs = search needs
+μ-loop t masks n tidy₀ i₀ tidy i = n - i
 
 used-below-requires : tie.Need-used-below-requires Inv-loop μ-loop
 used-below-requires c κs = search needs
@@ -38,7 +34,7 @@ loop-less c = search needs
 loop-again : tie.Need-loop-again Inv-loop μ-loop
 loop-again c =
     let l = c .before .before .before in
-    (omega arith, every-turn _ _ _ _ (l .loop .inv .1) (rw (← (l .before .before .occupied .ensures)) (c .slot-tidy .ensures)))
+    (omega arith, every-turn _ _ _ _ (l .loop .inv .1) (c .slot-tidy .ensures))
 
 calls-clear-from-requires : tie.Need-calls-clear-from-requires Inv-loop μ-loop
 calls-clear-from-requires c κs = search needs
@@ -47,11 +43,9 @@ returns : tie.Need-returns Inv-loop μ-loop
 returns c =
     let l = c .before .before in
     let n = l .before .used-below in
-    let o = l .before .before in
-    let t = tableOf (o .before .args .t .now) in
+    let t = tableOf (l .before .before .args .t .now) in
     let e : l .loop .i ≡ n .result = omega arith in
-    let free : FreeFrom (t .occupied) (n .result) = rw (o .occupied .ensures) at (n .ensures .1) in
-    rw (l .loop .inv .1, e, c .calls-clear-from .ensures) (slots-tidy t (n .result) (n .ensures .0) free)
+    rw (l .loop .inv .1, e, c .calls-clear-from .ensures) (slots-tidy t (n .result) (n .ensures .0) (n .ensures .1))
 
 pub slots-tidy-spec : {M : Type 1} → statement M
 slots-tidy-spec =
@@ -59,7 +53,6 @@ slots-tidy-spec =
     (tie.spec
     Inv-loop
     μ-loop
-    occupied-requires
     used-below-requires
     loop-holds
     slot-tidy-requires

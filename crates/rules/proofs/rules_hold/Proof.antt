@@ -1,12 +1,12 @@
 -- `rules_hold` meets its contract: each part tests some of the rules, and where no two keys are equal nothing stands
 -- twice.
-use mathlib.Core.Bool.{Bool, true, false, not, _&&_, and-false}
+use mathlib.Core.Bool.{Bool, true, false, _&&_, and-false}
 use mathlib.Core.Path.{_≡_, refl, sym, ap₂, _∙_}
 use borrow.Author.Tests.{not-true, not-false}
 use borrow.Author.Needs.{needs}
 use Rattle.lists.proofs.Tests.{both}
 use Rattle.table.specs.Table.{Table}
-use Rattle.table.specs.Rules.{holds, rosterAcceptable, sendersListed, withinLimits, shareWithinTotal, shortIdsOnce, longIdsOnce, namesAndIds, connectionsOnce, freeHoldsZeros, rulesHold}
+use Rattle.table.specs.Rules.{holds, rosterAcceptable, slotsWithinTotal, sendersListed, withinLimits, shareWithinTotal, shortIdsOnce, longIdsOnce, namesAndIds, connectionsOnce, freeHoldsZeros, rulesHold}
 use Rattle.table.specs.Words.{tableOf}
 use Rattle.rule_keys.proofs.SameKey.{keys-say}
 use Rattle.rules.proofs.rules_hold.Statement.{statement}
@@ -29,10 +29,13 @@ regrouped true true true true true true true c z = by c z
     by false false = refl
 regrouped true true true true true true false c z = refl
 
--- the rules in three groups: roster, names and zeros; counts; nothing stands twice
+all-three : {a b c x y z : Bool} → a ≡ x → b ≡ y → c ≡ z → (a && b && c) ≡ (x && y && z)
+all-three p q r = rw (p, q, r)
+
+-- the rules in three groups: roster, slots, names and zeros; counts; nothing stands twice
 module _ (t : Table) where
   abbrev tidy : Bool
-  tidy = holds rosterAcceptable t && (holds namesAndIds t && holds freeHoldsZeros t)
+  tidy = holds rosterAcceptable t && holds slotsWithinTotal t && (holds namesAndIds t && holds freeHoldsZeros t)
 
   abbrev within : Bool
   within = holds sendersListed t && holds withinLimits t && holds shareWithinTotal t
@@ -43,7 +46,7 @@ module _ (t : Table) where
   rules-are : rulesHold t ≡ (tidy && (within && once))
   unfolding rulesHold
   rules-are =
-      regrouped (holds rosterAcceptable t) (holds sendersListed t) (holds withinLimits t) (holds shareWithinTotal t) (holds shortIdsOnce t) (holds longIdsOnce t) (holds namesAndIds t)
+      regrouped (holds rosterAcceptable t && holds slotsWithinTotal t) (holds sendersListed t) (holds withinLimits t) (holds shareWithinTotal t) (holds shortIdsOnce t) (holds longIdsOnce t) (holds namesAndIds t)
       (holds connectionsOnce t) (holds freeHoldsZeros t)
 
   untidy : tidy ≡ false → false ≡ rulesHold t
@@ -58,26 +61,30 @@ module _ (t : Table) where
 roster-holds-requires : tie.Need-roster-holds-requires
 roster-holds-requires c κs = search needs
 
+slots-within-total-requires : tie.Need-slots-within-total-requires
+slots-within-total-requires c κs = search needs
+
 names-and-zeros-requires : tie.Need-names-and-zeros-requires
 names-and-zeros-requires c κs = search needs
 
 returns : tie.Need-returns
 returns c =
     let n = c .before in
-    let t = tableOf (n .before .before .args .t .now) in
-    untidy t (sym (ap₂ (λ (a b : Bool). a && b) (n .before .roster-holds .ensures) (n .names-and-zeros .ensures)) ∙ not-true _ (c .if1 .taken))
+    let t = tableOf (n .before .before .before .args .t .now) in
+    untidy t (sym (all-three (n .before .before .roster-holds .ensures) (n .before .slots-within-total .ensures) (n .names-and-zeros .ensures)) ∙ not-true _ (c .if1 .taken))
 
 shares-hold-requires : tie.Need-shares-hold-requires
 shares-hold-requires c κs =
     let n = c .before in
-    sym (n .before .roster-holds .ensures) ∙ both _ _ (not-false _ (c .if1 .left)) .0
+    let first = both (n .before .before .roster-holds .result) (n .before .slots-within-total .result) (both _ _ (not-false _ (c .if1 .left)) .0) in
+    (sym (n .before .before .roster-holds .ensures) ∙ first .0, sym (n .before .slots-within-total .ensures) ∙ first .1)
 
 returns-2 : tie.Need-returns-2
 returns-2 c =
     let i = c .before .before in
     let n = i .before in
-    let t = tableOf (n .before .before .args .t .now) in
-    over t (sym (ap₂ (λ (a b : Bool). a && b) (n .before .roster-holds .ensures) (n .names-and-zeros .ensures)) ∙ not-false _ (i .if1 .left))
+    let t = tableOf (n .before .before .before .args .t .now) in
+    over t (sym (all-three (n .before .before .roster-holds .ensures) (n .before .slots-within-total .ensures) (n .names-and-zeros .ensures)) ∙ not-false _ (i .if1 .left))
     (sym (c .before .shares-hold .ensures) ∙ not-true _ (c .if2 .taken))
 
 keys-apart-requires : tie.Need-keys-apart-requires
@@ -88,20 +95,20 @@ returns-3 c =
     let j = c .before .before in
     let i = j .before .before in
     let n = i .before in
-    let w = n .before .before .args .t .now in
+    let w = n .before .before .before .args .t .now in
     let t = tableOf w in
-    let tidy = both (n .before .roster-holds .result) (n .names-and-zeros .result) (not-false _ (i .if1 .left)) in
+    let tidy = both (n .before .before .roster-holds .result && n .before .slots-within-total .result) (n .names-and-zeros .result) (not-false _ (i .if1 .left)) in
     let zeros = both (holds namesAndIds t) (holds freeHoldsZeros t) (sym (n .names-and-zeros .ensures) ∙ tidy .1) .1 in
     let k = keys-say w zeros (c .before .keys-apart .ensures (c .if3 .taken)) in
-    left-over t true (sym (ap₂ (λ (a b : Bool). a && b) (n .before .roster-holds .ensures) (n .names-and-zeros .ensures)) ∙ not-false _ (i .if1 .left))
+    left-over t true (sym (all-three (n .before .before .roster-holds .ensures) (n .before .slots-within-total .ensures) (n .names-and-zeros .ensures)) ∙ not-false _ (i .if1 .left))
     (sym (j .before .shares-hold .ensures) ∙ not-false _ (j .if2 .left)) (sym (rw (k .0, k .1, k .2)))
 
 ids-once-requires : tie.Need-ids-once-requires
 ids-once-requires c κs =
     let i = c .before .before .before .before in
     let n = i .before in
-    let tidy = both (n .before .roster-holds .result) (n .names-and-zeros .result) (not-false _ (i .if1 .left)) in
-    let t = tableOf (n .before .before .args .t .now) in
+    let tidy = both (n .before .before .roster-holds .result && n .before .slots-within-total .result) (n .names-and-zeros .result) (not-false _ (i .if1 .left)) in
+    let t = tableOf (n .before .before .before .args .t .now) in
     both (holds namesAndIds t) (holds freeHoldsZeros t) (sym (n .names-and-zeros .ensures) ∙ tidy .1)
 
 connections-once-requires : tie.Need-connections-once-requires
@@ -109,17 +116,18 @@ connections-once-requires c κs =
     let j = c .before .before .before in
     let i = j .before .before in
     let n = i .before in
-    let t = tableOf (n .before .before .args .t .now) in
+    let t = tableOf (n .before .before .before .args .t .now) in
     let counts = sym (j .before .shares-hold .ensures) ∙ not-false _ (j .if2 .left) in
-    (sym (n .before .roster-holds .ensures) ∙ both _ _ (not-false _ (i .if1 .left)) .0, both (holds sendersListed t) (holds withinLimits t) (both (holds sendersListed t && holds withinLimits t) (holds shareWithinTotal t) counts .0) .0)
+    let first = both (n .before .before .roster-holds .result) (n .before .slots-within-total .result) (both _ _ (not-false _ (i .if1 .left)) .0) in
+    (sym (n .before .before .roster-holds .ensures) ∙ first .0, both (holds sendersListed t) (holds withinLimits t) (both (holds sendersListed t && holds withinLimits t) (holds shareWithinTotal t) counts .0) .0)
 
 returns-4 : tie.Need-returns-4
 returns-4 c =
     let j = c .before .before .before .before in
     let i = j .before .before in
     let n = i .before in
-    let t = tableOf (n .before .before .args .t .now) in
-    left-over t _ (sym (ap₂ (λ (a b : Bool). a && b) (n .before .roster-holds .ensures) (n .names-and-zeros .ensures)) ∙ not-false _ (i .if1 .left))
+    let t = tableOf (n .before .before .before .args .t .now) in
+    left-over t _ (sym (all-three (n .before .before .roster-holds .ensures) (n .before .slots-within-total .ensures) (n .names-and-zeros .ensures)) ∙ not-false _ (i .if1 .left))
     (sym (j .before .shares-hold .ensures) ∙ not-false _ (j .if2 .left))
     (ap₂ (λ (a b : Bool). a && b) (c .before .ids-once .ensures) (c .connections-once .ensures))
 
@@ -128,6 +136,7 @@ rules-hold-spec =
     tie.close
     (tie.spec
     roster-holds-requires
+    slots-within-total-requires
     names-and-zeros-requires
     returns
     shares-hold-requires

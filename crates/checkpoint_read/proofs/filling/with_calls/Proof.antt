@@ -1,11 +1,12 @@
 -- `filling::with_calls` meets its contract: after `i` turns the table is the one of the first `i` records.
 use Prim.Native.Nat.{_≤_, _-_}
 use native.Mathlib.Omega.{arith}
-use mathlib.Core.Path.{_≡_, sym, _∙_}
+use mathlib.Core.Path.{_≡_, sym, ap, _∙_}
+use Rattle.table.specs.Total.{totalFor, totalOf}
 use Rattle.table.specs.Words.{tableOf}
 use Rattle.spec_checkpoint.specs.Salvage.{withCalls}
 use Rattle.checkpoint_choice.proofs.Best.{best-kept, best-inside}
-use Rattle.checkpoint_read.proofs.Turns.{calls-turn, calls-none, calls-rules}
+use Rattle.checkpoint_read.proofs.Turns.{calls-turn, calls-none, calls-rules, calls-form}
 use borrow.Author.Needs.{needs}
 use Rattle.checkpoint_read.proofs.filling.with_calls.Statement.{statement}
 use Rattle.checkpoint_read.proofs.filling.with_calls.Tie as tie
@@ -44,7 +45,7 @@ with-call-requires c κs =
     let fresh = tableOf (a .t .now) in (
       omega (arith, z .pre),
       rw (l .loop .inv .1) (calls-rules fresh (a .s .now) (z .pre .2) (l .loop .i)),
-      λ h. best-inside fresh (a .s .now) _ _ (a .calls) (z .pre .0 .calls) (f .sound-flags .ensures) (n .named-counts .ensures) (l .loop .i) inside (sym (b .is-best .ensures) ∙ h),
+      λ h. omega (arith, ap totalOf (l .loop .inv .1), ap totalFor (calls-form fresh (a .s .now) (l .loop .i)), best-inside fresh (a .s .now) _ _ (a .calls) (z .pre .0 .calls) (f .sound-flags .ensures) (n .named-counts .ensures) (l .loop .i) inside (sym (b .is-best .ensures) ∙ h)),
     )
 
 add-i : tie.Need-add-i Inv-loop μ-loop

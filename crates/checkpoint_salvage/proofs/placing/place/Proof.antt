@@ -6,36 +6,27 @@ use borrow.Author.Needs.{needs}
 use Rattle.checkpoint_salvage.proofs.placing.place.Statement.{statement}
 use Rattle.checkpoint_salvage.proofs.placing.place.Tie as tie
 
-occupied-requires : tie.Need-occupied-requires
-occupied-requires c κs = search needs
-
-with-used-requires : tie.Need-with-used-requires
-with-used-requires c κs = search needs
-
 record-words-requires : tie.Need-record-words-requires
 record-words-requires c κs = search needs
 
 put-slot-requires : tie.Need-put-slot-requires
 put-slot-requires c κs = search needs
 
-set-occupied-requires : tie.Need-set-occupied-requires
-set-occupied-requires c κs = search needs
+mark-used-requires : tie.Need-mark-used-requires
+mark-used-requires c κs = search needs
 
 returns : tie.Need-returns
 returns c =
     let p = c .before .before in
     let w = p .before .before .before in
-    let o = w .before .before in
-    let z = o .before .before .before in
-    placed-by (tableOf (z .args .t .now)) _ _ (callRecord (z .args .s .now) (z .args .i)) _ _ _ _ (z .pre .1) (o .occupied .ensures) (w .before .with-used .ensures) (w .record-words .ensures) (p .put-slot .ensures) (c .set-occupied .ensures)
+    let z = w .before .before in
+    placed-by (tableOf (z .args .t .now)) _ _ (callRecord (z .args .s .now) (z .args .i)) _ _ (z .pre .1) (w .record-words .ensures) (p .put-slot .ensures) (c .mark-used .ensures)
 
 pub place-spec : {M : Type 1} → statement M
 place-spec =
     tie.close
     (tie.spec
-    occupied-requires
-    with-used-requires
     record-words-requires
     put-slot-requires
-    set-occupied-requires
+    mark-used-requires
     returns)

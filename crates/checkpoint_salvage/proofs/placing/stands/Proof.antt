@@ -3,6 +3,7 @@ use mathlib.Core.Path.{_≡_, sym, ap, _∙_}
 use borrow.Author.Tests.{not-true, not-false}
 use Rattle.lists.proofs.Tests.{both}
 use Rattle.table.specs.Words.{tableOf}
+use Rattle.table.proofs.Cells.{used-long}
 use Rattle.table.specs.Rules.{validIds, callFreeClear, rulesHold}
 use Rattle.spec_changes.proofs.Words.{words-calls}
 use Rattle.spec_changes.proofs.Valid.{ids-named}
@@ -21,7 +22,7 @@ law : (z : tie.Start) → standsBeside (tableOf (z .args .t .now)) (callRecord (
 law z =
     let w = z .args .t .now in
     let s = z .args .s .now in
-    stands-is (tableOf w) (callRecord s (z .args .i)) (words-calls w) (z .pre .2) (z .pre .3) (record-bare s (z .args .i)) (z .pre .1)
+    stands-is (tableOf w) (callRecord s (z .args .i)) (words-calls w) (used-long w) (z .pre .2) (z .pre .3) (record-bare s (z .args .i)) (z .pre .1)
 
 tidy-requires : tie.Need-tidy-requires
 tidy-requires c κs = search needs

@@ -1,5 +1,7 @@
 -- `placing::with_call` meets its contract: the callees' promises in each of the three cases.
+use native.Mathlib.Omega.{arith}
 use borrow.Author.Tests.{not-true, not-false}
+use Rattle.table.proofs.Within.{total-most}
 use Rattle.table.specs.Words.{tableOf}
 use Rattle.spec_checkpoint.specs.Layout.{callRecord}
 use Rattle.checkpoint_salvage.proofs.Placed.{call-placed, call-dropped}
@@ -22,8 +24,11 @@ call-fits-requires c κs =
 place-requires : tie.Need-place-requires
 place-requires c κs =
     let r = c .before .before .before .before in
-    let z = r .before .before .before in
-    (z .pre .0, r .record-slot .ensures .0, rw (r .record-slot .ensures .0) (z .pre .2 (not-false _ (r .before .if1 .left))))
+    let z = r .before .before .before in (
+      z .pre .0,
+      r .record-slot .ensures .0,
+      rw (r .record-slot .ensures .0) (omega (arith, z .pre .2 (not-false _ (r .before .if1 .left)), total-most (tableOf (z .args .t .now) .form))),
+    )
 
 returns-2 : tie.Need-returns-2
 returns-2 c =

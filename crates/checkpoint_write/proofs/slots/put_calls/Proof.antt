@@ -1,8 +1,8 @@
 -- `slots::put_calls` meets its contract: each turn writes one slot behind those before it.
 use Prim.Native.Nat.{_≤_, _-_}
 use native.Mathlib.Omega.{arith}
-use mathlib.Core.Path.{_≡_, sym, ap, _∙_}
-use Rattle.table.specs.Total.{total}
+use mathlib.Core.Path.{_≡_, sym, _∙_}
+use Rattle.table.specs.Total.{slots}
 use Rattle.table.specs.Lists.{callAt}
 use Rattle.table.specs.Word.{isUsed}
 use Rattle.table.specs.Words.{tableOf}
@@ -14,13 +14,10 @@ use Rattle.checkpoint_write.proofs.slots.put_calls.Statement.{statement
 use Rattle.checkpoint_write.proofs.slots.put_calls.Tie as tie
 
 abbrev Inv-loop : tie.InvT-loop
-Inv-loop out₀ t word at₀ i₀ out at i = (i ≤ total) × Reached (λ i. slotBytes (isUsed (tableOf t .occupied) i) i (callAt (tableOf t) i)) out₀ i at out
+Inv-loop out₀ t at₀ i₀ out at i = (i ≤ slots) × Reached (λ i. slotBytes (isUsed (tableOf t .occupied) i) i (callAt (tableOf t) i)) out₀ i at out
 
 abbrev μ-loop : tie.MeasureT-loop
-μ-loop out₀ t word at₀ i₀ out at i = total - i
-
-occupied-requires : tie.Need-occupied-requires Inv-loop μ-loop
-occupied-requires c κs = search needs
+μ-loop out₀ t at₀ i₀ out at i = slots - i
 
 loop-holds : tie.Need-loop-holds Inv-loop μ-loop
 loop-holds c = (omega arith, none _ _)
@@ -41,20 +38,20 @@ put-slot-requires : tie.Need-put-slot-requires Inv-loop μ-loop
 unfolding callsBytes
 put-slot-requires c κs =
     let l = c .before .before .before in
-    let s = l .before .before .before in
+    let s = l .before .before in
     let i = l .loop .i in
-    let used = c .is-used .ensures ∙ ap (λ w. isUsed w i) (l .before .occupied .ensures) in
-    (omega arith, λ h. used-writable (tableOf (s .args .t .now)) (s .pre .0) i (omega arith) (sym used ∙ h), rw used (room _ _ _ total (omega arith) (s .pre .1) (l .loop .inv .1)))
+    let used = c .is-used .ensures in
+    (omega arith, λ h. used-writable (tableOf (s .args .t .now)) (s .pre .0) i (omega arith) (sym used ∙ h), rw used (room _ _ _ slots (omega arith) (s .pre .1) (l .loop .inv .1)))
 
 add-at : tie.Need-add-at Inv-loop μ-loop
 unfolding callsBytes
 add-at c =
     let p = c .before .before in
     let l = p .before .before .before .before in
-    let s = l .before .before .before in
-    let used = p .before .is-used .ensures ∙ ap (λ w. isUsed w (l .loop .i)) (l .before .occupied .ensures) in
+    let s = l .before .before in
+    let used = p .before .is-used .ensures in
     let w = rw used at (p .put-slot .ensures) in
-    omega (arith, within-turn _ _ _ total (omega arith) (s .pre .1) (l .loop .inv .1) _ (w .count))
+    omega (arith, within-turn _ _ _ slots (omega arith) (s .pre .1) (l .loop .inv .1) _ (w .count))
 
 add-i : tie.Need-add-i Inv-loop μ-loop
 add-i c = search needs
@@ -67,9 +64,9 @@ unfolding callsBytes
 loop-again c =
     let p = c .before .before in
     let l = p .before .before .before .before in
-    let s = l .before .before .before in
-    let used = p .before .is-used .ensures ∙ ap (λ w. isUsed w (l .loop .i)) (l .before .occupied .ensures) in
-    (omega arith, turn _ _ _ total (omega arith) (s .pre .1) (l .loop .inv .1) (rw used at (p .put-slot .ensures)))
+    let s = l .before .before in
+    let used = p .before .is-used .ensures in
+    (omega arith, turn _ _ _ slots (omega arith) (s .pre .1) (l .loop .inv .1) (rw used at (p .put-slot .ensures)))
 
 same-length : tie.Need-same-length Inv-loop μ-loop
 same-length c = search needs
@@ -77,7 +74,7 @@ same-length c = search needs
 returns : tie.Need-returns Inv-loop μ-loop
 unfolding callsBytes
 returns c =
-    let e : c .before .loop .i ≡ total = omega arith in
+    let e : c .before .loop .i ≡ slots = omega arith in
     rw e at (c .before .loop .inv .1 .put)
 
 pub put-calls-spec : {M : Type 1} → statement M
@@ -86,7 +83,6 @@ put-calls-spec =
     (tie.spec
     Inv-loop
     μ-loop
-    occupied-requires
     loop-holds
     sub-put-slot
     part-put-slot-start

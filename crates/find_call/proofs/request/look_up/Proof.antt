@@ -10,13 +10,10 @@ use Rattle.find_call.proofs.request.look_up.Statement.{statement}
 use Rattle.find_call.proofs.request.look_up.Tie as tie
 
 abbrev Inv-loop : tie.InvT-loop
-Inv-loop t msg q word n name look₀ i₀ look i = (i ≤ n) × Looked (tableOf t) (idsIn msg q) i look
+Inv-loop t msg q n name look₀ i₀ look i = (i ≤ n) × Looked (tableOf t) (idsIn msg q) i look
 
 abbrev μ-loop : tie.MeasureT-loop
-μ-loop t msg q word n name look₀ i₀ look i = n - i
-
-occupied-requires : tie.Need-occupied-requires Inv-loop μ-loop
-occupied-requires c κs = search needs
+μ-loop t msg q n name look₀ i₀ look i = n - i
 
 used-below-requires : tie.Need-used-below-requires Inv-loop μ-loop
 used-below-requires c κs = search needs
@@ -35,8 +32,8 @@ looked-requires c κs =
     let u = c .before in
     let n = u .before .before .before in
     let o = n .before .before in
-    let p = o .before .before .pre in
-    (omega (arith, n .before .used-below .ensures .0), rw (o .occupied .ensures) at (u .is-used .ensures), p .0, p .1, p .2, n .name-words .ensures)
+    let p = o .before .pre in
+    (omega (arith, n .before .used-below .ensures .0), u .is-used .ensures, p .0, p .1, p .2, n .name-words .ensures)
 
 add-i : tie.Need-add-i Inv-loop μ-loop
 add-i c = search needs
@@ -48,15 +45,14 @@ loop-again : tie.Need-loop-again Inv-loop μ-loop
 loop-again c =
     let u = c .before .before in
     let l = u .before .before in
-    let used = rw (l .before .before .before .occupied .ensures) at (u .is-used .ensures) in
-    (omega arith, rw (c .looked .ensures) (look-turn _ _ _ _ _ used (l .loop .inv .1)))
+    (omega arith, rw (c .looked .ensures) (look-turn _ _ _ _ _ (u .is-used .ensures) (l .loop .inv .1)))
 
 returns : tie.Need-returns Inv-loop μ-loop
 returns c =
     let b = c .before .before .before in
     let n = b .used-below in
     let e : c .before .loop .i ≡ n .result = omega arith in
-    look-all _ _ _ _ (n .ensures .0) (rw (b .before .occupied .ensures) at (n .ensures .1)) (rw e at (c .before .loop .inv .1))
+    look-all _ _ _ _ (n .ensures .0) (n .ensures .1) (rw e at (c .before .loop .inv .1))
 
 pub look-up-spec : {M : Type 1} → statement M
 look-up-spec =
@@ -64,7 +60,6 @@ look-up-spec =
     (tie.spec
     Inv-loop
     μ-loop
-    occupied-requires
     used-below-requires
     name-words-requires
     loop-holds

@@ -14,13 +14,10 @@ use Rattle.find_call.proofs.share.calls_of.Statement.{statement}
 use Rattle.find_call.proofs.share.calls_of.Tie as tie
 
 abbrev Inv-loop : tie.InvT-loop
-Inv-loop t address word n calls₀ i₀ calls i = (i ≤ n) × (calls ≤ i) × (calls ≡ countIf (from address) (below (openAt (tableOf t)) i))
+Inv-loop t address n calls₀ i₀ calls i = (i ≤ n) × (calls ≤ i) × (calls ≡ countIf (from address) (below (openAt (tableOf t)) i))
 
 abbrev μ-loop : tie.MeasureT-loop
-μ-loop t address word n calls₀ i₀ calls i = n - i
-
-occupied-requires : tie.Need-occupied-requires Inv-loop μ-loop
-occupied-requires c κs = search needs
+μ-loop t address n calls₀ i₀ calls i = n - i
 
 used-below-requires : tie.Need-used-below-requires Inv-loop μ-loop
 used-below-requires c κs = search needs
@@ -51,16 +48,14 @@ loop-again c =
     let u = c .before .before in
     let l = u .before .before .before in
     let o = c .one-if .ensures in
-    let used = rw (l .before .before .occupied .ensures) at (u .is-used .ensures) in
-    (omega arith, omega arith, count-turn _ _ _ _ _ _ _ refl (l .loop .inv .2) (o .0 ∙ rw (used, u .before .call-head .ensures)))
+    (omega arith, omega arith, count-turn _ _ _ _ _ _ _ refl (l .loop .inv .2) (o .0 ∙ rw (u .is-used .ensures, u .before .call-head .ensures)))
 
 returns : tie.Need-returns Inv-loop μ-loop
 returns c =
     let u = c .before .before in
-    let o = u .before in
-    let a = o .before .args in
+    let a = u .before .args in
     let e : c .before .loop .i ≡ u .used-below .result = omega arith in
-    let rest = open-rest (tableOf (a .t .now)) _ (u .used-below .ensures .0) (rw (o .occupied .ensures) at (u .used-below .ensures .1)) in
+    let rest = open-rest (tableOf (a .t .now)) _ (u .used-below .ensures .0) (u .used-below .ensures .1) in
     rw e at (c .before .loop .inv .2) ∙ ap (λ l. callsOf l (a .address)) (sym rest)
 
 pub calls-of-spec : {M : Type 1} → statement M
@@ -69,7 +64,6 @@ calls-of-spec =
     (tie.spec
     Inv-loop
     μ-loop
-    occupied-requires
     used-below-requires
     loop-holds
     call-head-requires

@@ -3,7 +3,7 @@ use Prim.Native.Nat.{_≤_, _-_}
 use native.Mathlib.Omega.{arith}
 use mathlib.Core.Path.{_≡_, sym, _∙_}
 use Rattle.lists.proofs.Below.{has-list-if}
-use Rattle.table.specs.Total.{total}
+use Rattle.table.specs.Total.{slots}
 use Rattle.table.specs.Word.{isUsed}
 use Rattle.table.specs.Lists.{callAt, callFour, heldIn, heldAt}
 use Rattle.table.specs.Rules.{isLsp}
@@ -18,13 +18,10 @@ use Rattle.find_connection.proofs.under.find_under.Statement.{statement
 use Rattle.find_connection.proofs.under.find_under.Tie as tie
 
 abbrev Inv-loop : tie.InvT-loop
-Inv-loop t x word n held₀ at₀ i₀ held at i = (i ≤ n) × Sought (heldAt (tableOf t)) (isLsp (lspOf x)) i held at
+Inv-loop t x n held₀ at₀ i₀ held at i = (i ≤ n) × Sought (heldAt (tableOf t)) (isLsp (lspOf x)) i held at
 
 abbrev μ-loop : tie.MeasureT-loop
-μ-loop t x word n held₀ at₀ i₀ held at i = n - i
-
-occupied-requires : tie.Need-occupied-requires Inv-loop μ-loop
-occupied-requires c κs = search needs
+μ-loop t x n held₀ at₀ i₀ held at i = n - i
 
 used-below-requires : tie.Need-used-below-requires Inv-loop μ-loop
 used-below-requires c κs = search needs
@@ -54,11 +51,11 @@ loop-again : tie.Need-loop-again Inv-loop μ-loop
 loop-again c =
     let h = c .before in
     let l = h .before .before .before .before in
-    let o = l .before .before in
-    let t = tableOf (o .before .args .t .now) in
-    let x = lspOf (o .before .args .x) in
+    let z = l .before .before in
+    let t = tableOf (z .args .t .now) in
+    let x = lspOf (z .args .x) in
     let i = l .loop .i in
-    let used = rw (o .occupied .ensures) at (h .before .before .is-used .ensures) in
+    let used = h .before .before .is-used .ensures in
     let four = callFour (callAt t i) in
     let e = rw (used, alike-held _ four (h .before .call-four .ensures .0)) at (h .holds .ensures) in
     (omega arith, sought-turn _ _ _ (l .loop .inv .1) (e ∙ sym (has-list-if (isLsp x) (isUsed (t .occupied) i) (heldIn four))) (c .select .ensures))
@@ -67,12 +64,11 @@ returns : tie.Need-returns Inv-loop μ-loop
 unfolding underFoundOf
 returns c =
     let u = c .before .before in
-    let o = u .before in
-    let t = tableOf (o .before .args .t .now) in
+    let t = tableOf (u .before .args .t .now) in
     let n = u .used-below in
     let e : c .before .loop .i ≡ n .result = omega arith in
-    let free = held-free t _ (rw (o .occupied .ensures) at (n .ensures .1)) in
-    let k = sought-rest _ _ total (n .ensures .0) free (rw e at (c .before .loop .inv .1)) in
+    let free = held-free t _ (n .ensures .1) in
+    let k = sought-rest _ _ slots (n .ensures .0) free (rw e at (c .before .loop .inv .1)) in
     rw (k .has, k .place)
 
 pub find-under-spec : {M : Type 1} → statement M
@@ -81,7 +77,6 @@ find-under-spec =
     (tie.spec
     Inv-loop
     μ-loop
-    occupied-requires
     used-below-requires
     loop-holds
     is-used-requires

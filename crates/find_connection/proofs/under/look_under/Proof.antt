@@ -10,13 +10,10 @@ use Rattle.find_connection.proofs.under.look_under.Statement.{statement
 use Rattle.find_connection.proofs.under.look_under.Tie as tie
 
 abbrev Inv-loop : tie.InvT-loop
-Inv-loop t x word n look₀ i₀ look i = (i ≤ n) × (look .four ≤ 4 * i) × LookedUnder (tableOf t) (heldBy x) i look
+Inv-loop t x n look₀ i₀ look i = (i ≤ n) × (look .four ≤ 4 * i) × LookedUnder (tableOf t) (heldBy x) i look
 
 abbrev μ-loop : tie.MeasureT-loop
-μ-loop t x word n look₀ i₀ look i = n - i
-
-occupied-requires : tie.Need-occupied-requires Inv-loop μ-loop
-occupied-requires c κs = search needs
+μ-loop t x n look₀ i₀ look i = n - i
 
 used-below-requires : tie.Need-used-below-requires Inv-loop μ-loop
 used-below-requires c κs = search needs
@@ -40,15 +37,14 @@ loop-again : tie.Need-loop-again Inv-loop μ-loop
 loop-again c =
     let l = c .before .before .before in
     let r = c .looked .ensures in
-    let used = rw (l .before .before .occupied .ensures) at (c .before .is-used .ensures) in
-    (omega arith, omega (arith, r .1, l .loop .inv .1), rw (r .0) (look-turn _ _ _ _ _ used (l .loop .inv .2)))
+    (omega arith, omega (arith, r .1, l .loop .inv .1), rw (r .0) (look-turn _ _ _ _ _ (c .before .is-used .ensures) (l .loop .inv .2)))
 
 returns : tie.Need-returns Inv-loop μ-loop
 returns c =
     let u = c .before .before in
     let n = u .used-below in
     let e : c .before .loop .i ≡ n .result = omega arith in
-    look-all _ _ _ _ (n .ensures .0) (rw (u .before .occupied .ensures) at (n .ensures .1)) (rw e at (c .before .loop .inv .2))
+    look-all _ _ _ _ (n .ensures .0) (n .ensures .1) (rw e at (c .before .loop .inv .2))
 
 pub look-under-spec : {M : Type 1} → statement M
 look-under-spec =
@@ -56,7 +52,6 @@ look-under-spec =
     (tie.spec
     Inv-loop
     μ-loop
-    occupied-requires
     used-below-requires
     loop-holds
     is-used-requires

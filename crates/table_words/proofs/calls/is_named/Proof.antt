@@ -49,7 +49,7 @@ loop-again : tie.Need-loop-again Inv-loop μ-loop
 loop-again c =
     let l = c .before .before .before .loop in
     let a = c .before .before .before .before .args in
-    (omega arith, every-turn _ _ _ _ (l .inv .1) (rw (c .word .ensures) (ap (λ (n : ℕ). eqb (getD (a .name .now) n 0) (getD (a .t .now) (190 + 32 * a .i + 8 + l .k) 0)) (omega arith))))
+    (omega arith, every-turn _ _ _ _ (l .inv .1) (rw (c .word .ensures) (ap (λ (n : ℕ). eqb (getD (a .name .now) n 0) (getD (a .t .now) (197 + 32 * a .i + 8 + l .k) 0)) (omega arith))))
 
 returns : tie.Need-returns Inv-loop μ-loop
 returns c =

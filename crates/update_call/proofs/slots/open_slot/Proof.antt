@@ -14,24 +14,17 @@ new-call-requires c κs = search needs
 put-slot-requires : tie.Need-put-slot-requires
 put-slot-requires c κs = search needs
 
-occupied-requires : tie.Need-occupied-requires
-occupied-requires c κs = search needs
-
-with-used-requires : tie.Need-with-used-requires
-with-used-requires c κs = search needs
-
-set-occupied-requires : tie.Need-set-occupied-requires
-set-occupied-requires c κs = search needs
+mark-used-requires : tie.Need-mark-used-requires
+mark-used-requires c κs = search needs
 
 returns : tie.Need-returns
 unfolding opened
 returns c =
-    let p = c .before .before .before in
+    let p = c .before .before in
     let n = p .before .before .before in
-    let o = n .before in
-    let z = o .before .before .before in
-    turned withUsed (tableOf (z .args .t .now)) _ _ _ _ _ _ _ (o .occupied .ensures) (c .before .with-used .ensures) (n .new-call .ensures) (p .put-slot .ensures) (c .set-occupied .ensures)
+    let z = n .before .before in
+    turned withUsed (tableOf (z .args .t .now)) _ _ _ _ _ (n .new-call .ensures) (p .put-slot .ensures) (c .mark-used .ensures)
     ∙ rw (z .pre .2)
 
 pub open-slot-spec : {M : Type 1} → statement M
-open-slot-spec = tie.close (tie.spec occupied-requires new-call-requires put-slot-requires with-used-requires set-occupied-requires returns)
+open-slot-spec = tie.close (tie.spec new-call-requires put-slot-requires mark-used-requires returns)

@@ -1,0 +1,15 @@
+-- How the rows are run: message after message, on the table that the one before left.
+use Prim.Native.Nat.{ℕ}
+use mathlib.Core.List.{List, [], _∷_}
+use Rattle.table.specs.Table.{Table}
+use Rattle.spec_calls.specs.Handling.{Handled}
+
+-- what handles a message, from table, message and reply buffer: `handled` in every claim. The proofs also run the rows by
+-- one that does not test the table rules, which costs the checker less, and show that it comes to the same.
+abbrev pub StepTo : Type 0 → Type 0
+StepTo A = Table → List ℕ → List ℕ → A
+
+-- the table after some messages, each with the same buffer
+abbrev pub tableThrough : StepTo Handled → List ℕ → Table → List (List ℕ) → Table
+tableThrough step buffer t [] = t
+tableThrough step buffer t (s ∷ l) = tableThrough step buffer (step t s buffer .table) l
