@@ -3,7 +3,7 @@
 use Prim.Native.Nat.{ℕ, _-_, _<_, _≤_}
 use native.Mathlib.Omega.{arith}
 use mathlib.Core.Path.{_≡_, sym, ap, _∙_}
-use mathlib.Core.List.{List}
+use mathlib.Core.List.{List, []}
 use mathlib.Core.Bool.{Bool, true, false, _||_}
 use lib.Dec.{eqb}
 use lib.ListN.{length, replicate}
@@ -14,7 +14,9 @@ use Rattle.table.specs.Table.{Table}
 use Rattle.table.specs.Lists.{entries, held}
 use Rattle.table.specs.Rules.{rulesHold}
 use Rattle.table.specs.Roster.{rosterNumber, rosterAnswer, freshTable, tableFor, formIn}
-use Rattle.table.proofs.Fresh.{fresh-holds}
+use Rattle.table.proofs.Fresh.{fresh-holds, fresh-held}
+use Rattle.spec_changes.specs.Shape.{Shape}
+use Rattle.spec_changes.proofs.Fresh.{fresh-shape}
 use Rattle.spec_promises.proofs.Demand3 as promises
 use Rattle.spec_checkpoint.specs.Layout.{callsIn, connectionsIn, checkpointSize}
 use Rattle.spec_checkpoint.specs.Salvage.{withCalls, withConnections, salvaged}
@@ -58,13 +60,19 @@ module _ (salvage : Bool) (r s : List ℕ) (a : RosterAnswer) (n : ℕ) (fresh :
   unfolding tableFor
   fresh-is h = table ∙ rw (accepted h)
 
-  -- the table of an accepted roster keeps the rules and has no call
+  -- the table of an accepted roster keeps the rules and has no call and no connection
   pub fresh-rules : Bytes r → n ≡ 0 → rulesHold fresh ≡ true
   fresh-rules b h = rw (fresh-is h) (fresh-holds r b (promises.accepted (rosterAnswer r) (sym (number ∙ ap rosterNumber answer) ∙ h)))
 
   pub fresh-free : n ≡ 0 → fresh .occupied ≡ replicate 4 0
   unfolding freshTable
   fresh-free h = ap (λ t. t .occupied) (fresh-is h)
+
+  pub fresh-shaped : n ≡ 0 → Shape fresh
+  fresh-shaped h = rw (fresh-is h) (fresh-shape r)
+
+  pub fresh-bare : n ≡ 0 → held fresh ≡ []
+  fresh-bare h = rw (fresh-is h) (fresh-held r)
 
   pub size-refused : n ≡ 0 → badSize s ≡ true → unrestored 70 fresh ≡ restored salvage r s
   unfolding restored

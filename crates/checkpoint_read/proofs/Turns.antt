@@ -1,19 +1,30 @@
 -- One record more: a call placed where step 2 keeps it and it fits, a connection added where it fits.
 -- Assumes nothing.
-use Prim.Native.Nat.{ℕ, zero, suc, _+_, _*_}
+use Prim.Native.Nat.{ℕ, zero, suc, _+_, _*_, _<_}
 use native.Mathlib.Numerals.{add-one}
-use mathlib.Core.Path.{_≡_, refl}
-use mathlib.Core.List.{List}
+use native.Mathlib.Omega.{arith}
+use mathlib.Core.Path.{_≡_, refl, ap, _∙_}
+use mathlib.Core.List.{List, [], _∷_}
 use mathlib.Core.Bool.{Bool, true, false, cond, not, _&&_}
+use lib.ListN.{length}
+use borrow.Author.Tests.{not-true}
+use Rattle.numbers.specs.BigEndian.{Bytes}
+use Rattle.lists.specs.Count.{countIf}
 use Rattle.lists.proofs.Tests.{both}
 use Rattle.table.specs.Table.{Table}
 use Rattle.table.specs.Word.{isUsed}
-use Rattle.table.specs.Lists.{Held}
-use Rattle.table.specs.Rules.{holds, slotsWithinTotal, rulesHold}
-use Rattle.spec_changes.specs.Connections.{added}
+use Rattle.table.specs.Lists.{entries, Held, held}
+use Rattle.table.specs.Rules.{placeValid, holds, slotsWithinTotal, rulesHold}
+use Rattle.spec_changes.specs.Shape.{Shape}
+use Rattle.spec_changes.specs.Connections.{placeFor, added}
+use Rattle.spec_changes.proofs.Opened.{used-shape}
 use Rattle.spec_changes.proofs.Tables.{added-words, added-form}
 use Rattle.spec_checkpoint.specs.Layout.{callRecord, connectionRecord, heldAtByte}
 use Rattle.spec_checkpoint.specs.Salvage.{placed, keptByLongId, callFits, callKept, withCalls, connectionFits, connectionKept, withConnections}
+use Rattle.spec_checkpoint.proofs.Part.{record-bare, placed-held}
+use Rattle.spec_checkpoint.proofs.Salvaged.{kept-inside, bytes-fit}
+use Rattle.checkpoint_connections.specs.Marks.{callMark, heldMark, Marked, Marking}
+use Rattle.checkpoint_connections.proofs.Noted.{none-marked}
 use Rattle.checkpoint_choice.specs.Sized.{Sized}
 
 -- ---- calls
@@ -50,7 +61,45 @@ calls-form fresh s (suc i) = by (callKept fresh (withCalls fresh s i) s i) (call
     by true e = e
     by false e = e
 
+-- the shape stays too, and no call record brings a connection
+calls-held : (fresh : Table) (s : List ℕ) → Shape fresh → (i : ℕ) → Shape (withCalls fresh s i) × ((p : Held → Bool) → countIf p (held (withCalls fresh s i)) ≡ countIf p (held fresh))
+unfolding withCalls callFits
+calls-held fresh s h zero = (h, λ p. refl)
+calls-held fresh s h (suc i) = by (callKept fresh t s i) refl (calls-held fresh s h i)
+  where
+    t : Table
+    t = withCalls fresh s i
+
+    by : (b : Bool) → callKept fresh t s i ≡ b → Shape t × ((p : Held → Bool) → countIf p (held t) ≡ countIf p (held fresh))
+        → Shape (cond b (placed t (callRecord s i)) t) × ((p : Held → Bool) → countIf p (held (cond b (placed t (callRecord s i)) t)) ≡ countIf p (held fresh))
+    by true e k =
+        let r = callRecord s i in
+        let m = both (keptByLongId fresh s i) (callFits t r) e in
+        let inside = kept-inside fresh s i (m .0) in
+        let was = not-true (isUsed (t .occupied) (r .slot)) (both (not (isUsed (t .occupied) (r .slot))) (rulesHold (placed t r)) (m .1) .0) in
+        (used-shape t (r .slot) (r .call) (k .0) inside refl, λ p. placed-held t r (k .0 .calls) (k .0 .words .four) inside was (record-bare s i) p ∙ k .1 p)
+    by false e k = k
+
+no-held : (l : List Held) → countIf (λ x. true) l ≡ 0 → l ≡ []
+no-held [] e = refl
+no-held (x ∷ l) e = let z : ⊥ = omega arith in absurd z
+
+pub calls-shape : (fresh : Table) (s : List ℕ) → Shape fresh → (i : ℕ) → Shape (withCalls fresh s i)
+calls-shape fresh s h i = calls-held fresh s h i .0
+
+pub calls-bare : (fresh : Table) (s : List ℕ) → Shape fresh → held fresh ≡ [] → (i : ℕ) → held (withCalls fresh s i) ≡ []
+calls-bare fresh s h e i = no-held (held (withCalls fresh s i)) (calls-held fresh s h i .1 (λ x. true) ∙ ap (countIf (λ (x : Held). true)) e)
+
 -- ---- connections
+
+-- a record's IDs are such as a place may have
+pub record-fits : (s : List ℕ) (n m k : ℕ) → Sized s n m → Bytes s → k < m → placeValid (placeFor (heldAtByte s (4 + 55 * n + 18 * k) .lsp)) ≡ true
+record-fits s n m k z b h = rw (z .calls) (bytes-fit s b k (omega (arith, z .connections)))
+
+-- before the first record, calls and connections are marked
+pub marking-starts : (slotMarks marks : List ℕ) (t : Table) → Shape t → rulesHold t ≡ true → Marked callMark slotMarks (entries t) → held t ≡ [] → length marks ≡ 16384
+    → Marking slotMarks marks t
+marking-starts slotMarks marks t s r c e n = record { shape = s; rules = r; calls = c; held = rw e (none-marked heldMark marks n) }
 
 pub connections-turn : (start : Table) (s : List ℕ) (n m k : ℕ) (t u : Table) (x : Held) → Sized s n m → t ≡ withConnections start s k
     → x ≡ heldAtByte s (4 + 55 * n + 18 * k) → u ≡ cond (connectionFits t x) (added t x) t → u ≡ withConnections start s (k + 1)

@@ -1,19 +1,24 @@
 // The table filled from a checkpoint's records, the calls first. The checkpoint has so many of them: its size has been
 // tested, and each count has its bits.
 ghost use mathlib.Core.Path.{_≡_};
-ghost use lib.ListN.{replicate};
+ghost use mathlib.Core.List.{[]};
 ghost use mathlib.Core.Bool.{true};
 ghost use Prim.Native.Nat.{_<_};
+ghost use lib.ListN.{replicate};
+ghost use Rattle.table.specs.Lists.{held};
 ghost use Rattle.table.specs.Rules.{rulesHold};
 ghost use Rattle.table.specs.Words.{tableOf};
+ghost use Rattle.spec_changes.specs.Shape.{Shape};
 ghost use Rattle.spec_checkpoint.specs.Salvage.{withCalls, withConnections};
 ghost use Rattle.checkpoint_choice.specs.Sized.{Sized};
 use checkpoint_choice::choosing::is_best;
 use checkpoint_choice::choosing::long_chains;
 use checkpoint_choice::choosing::sound_flags;
 use checkpoint_choice::naming::named_counts;
+use checkpoint_connections::keep_connection;
+use checkpoint_connections::marks::Marks;
+use checkpoint_connections::marks::mark_calls;
 use checkpoint_records::read::connection_record;
-use checkpoint_salvage::adding::with_connection;
 use checkpoint_salvage::placing::with_call;
 use table::layout::Words;
 
@@ -35,15 +40,19 @@ pub fn with_calls(t: &mut Words, s: &[u8], calls: usize, connections: usize)
     }
 }
 
+// Into a table that keeps the rules and has no connection: calls and connections are marked from there on.
 pub fn with_connections(t: &mut Words, s: &[u8], calls: usize, connections: usize)
-    requires { ⌜ Sized (now s) calls connections ⌝ }
+    requires { ⌜ Sized (now s) calls connections × Shape (tableOf (now t)) × (rulesHold (tableOf (now t)) ≡ true) × (held (tableOf (now t)) ≡ []) ⌝ }
     ensures { λ _. ⌜ tableOf (now (t .exit)) ≡ withConnections (tableOf (now (t .entry))) (now (s .entry)) connections ⌝ }
 {
+    let mut slots: Marks = [0; 16384];
+    mark_calls(t, &mut slots);
+    let mut marks: Marks = [0; 16384];
     let base = 4 + 55 * calls;
     let mut k: usize = 0;
     while k < connections {
         let x = connection_record(s, base + 18 * k);
-        with_connection(t, x);
+        keep_connection(t, &slots, &mut marks, x);
         k += 1;
     }
 }

@@ -1,11 +1,14 @@
 // A table read from a checkpoint of one (request A13): any bytes get an answer, and the lent table becomes the one that
 // goes with it.
 ghost use mathlib.Core.Path.{_≡_};
+ghost use mathlib.Core.List.{[]};
 ghost use mathlib.Core.Bool.{true};
 ghost use Prim.Native.Nat.{_-_, _+_, _≤_, _<_};
 ghost use lib.ListN.{length, replicate};
+ghost use Rattle.table.specs.Lists.{held};
 ghost use Rattle.table.specs.Rules.{rulesHold};
 ghost use Rattle.table.specs.Words.{tableOf};
+ghost use Rattle.spec_changes.specs.Shape.{Shape};
 ghost use Rattle.spec_checkpoint.specs.Layout.{callsIn, connectionsIn};
 ghost use Rattle.spec_checkpoint.specs.Restored.{restored};
 ghost use Rattle.checkpoint_choice.specs.Sized.{Sized};
@@ -59,9 +62,9 @@ fn connections_in(s: &[u8]) -> usize
     get16(s, 2) as usize
 }
 
-// All records that are kept, in a fresh table: it keeps the rules and has no call.
+// All records that are kept, in a fresh table: it keeps the rules and has no call and no connection.
 fn read_records(t: &mut Words, s: &[u8], calls: usize, connections: usize) -> Restored
-    requires { ⌜ Sized (now s) calls connections × (connections < 65536) × (rulesHold (tableOf (now t)) ≡ true) × (tableOf (now t) .occupied ≡ replicate 4 0) ⌝ }
+    requires { ⌜ Sized (now s) calls connections × (connections < 65536) × (rulesHold (tableOf (now t)) ≡ true) × (tableOf (now t) .occupied ≡ replicate 4 0) × Shape (tableOf (now t)) × (held (tableOf (now t)) ≡ []) ⌝ }
     ensures { λ r. ⌜ restoredAs r (tableOf (now (t .exit))) ≡ readInto (tableOf (now (t .entry))) (now (s .entry)) ⌝ }
 {
     with_calls(t, s, calls, connections);

@@ -50,7 +50,7 @@ pub struct UnderLook {
 }
 
 // The slot's call has this Call ID, and is of this pair. A slot is one of the table's.
-fn is_named(t: &Words, i: usize, call: CallId, endpoint: u32, sender: u32) -> bool
+pub fn is_named(t: &Words, i: usize, call: CallId, endpoint: u32, sender: u32) -> bool
     requires { ⌜ i < slots ⌝ }
     ensures { λ r. ⌜ r ≡ isNamed (call .0) endpoint sender (idsOf (callAt (tableOf (now (t .entry))) i)) ⌝ }
 {

@@ -82,7 +82,7 @@ module _ (x : Held) (c : Call) (i : ℕ) (h : isCallOf x (record { slot = i; ids
       let m = both (eqb (x .call) (c .id)) (eqb (x .lsp .endpoint) (c .endpoint)) (k .0) in
       (eqb-true _ _ (m .0), eqb-true _ _ (m .1), eqb-true _ _ (k .1))
 
-  under-four : (j : ℕ) → sameFour x (connectionAt (callFour c) j) ≡ true
+  pub under-four : (j : ℕ) → sameFour x (connectionAt (callFour c) j) ≡ true
   under-four j =
       rw (of-call .0, of-call .1, of-call .2, eq-eqb (c .id) (c .id) refl, eq-eqb (c .endpoint) (c .endpoint) refl, eq-eqb (c .sender) (c .sender) refl)
       (or-true (eqb (c .id) 0))

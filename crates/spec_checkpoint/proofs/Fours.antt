@@ -72,6 +72,15 @@ module _ (t : Table) (k : Kept t) (x : Held) where
       by false true false = refl
       by false false c = refl
 
+  -- under another call none counts among its four
+  pub elsewhere : (x .call ≡ 0 → ⊥) → (c : Call) → isCallOf x (record { slot = 0; ids = idsOf c }) ≡ false → (j : ℕ) → sameFour x (connectionAt (callFour c) j) ≡ false
+  elsewhere n c e j = rw (ne-eqb (x .call) 0 n) (not-own (eqb (x .call) (c .id)) (eqb (x .lsp .sender) (c .sender)) (eqb (x .lsp .endpoint) (c .endpoint)) e)
+    where
+      not-own : (a b d : Bool) → (a && d && b) ≡ false → (a && b && (false || d)) ≡ false
+      not-own true true d e = sym (and-true d) ∙ e
+      not-own true false d e = refl
+      not-own false b d e = refl
+
   -- under calls: those of one call where the Call ID is not 0, none where it is
   under-some : (x .call ≡ 0 → ⊥) → countIf (sameFour x) (below (heldAt t) slots) ≤ 4
   under-some n =
@@ -79,16 +88,8 @@ module _ (t : Table) (k : Kept t) (x : Held) where
         arith,
         one-call,
         rows-bound (sameFour x) (isCallOf x) (isUsed (t .occupied)) (λ i. heldIn (callFour (callAt t i))) (λ i. record { slot = i; ids = idsOf (callAt t i) }) slots
-            (λ i l u. at-most (sameFour x) (callFour (callAt t i)) (isCallOf x (record { slot = i; ids = idsOf (callAt t i) })) (elsewhere (callAt t i))),
+            (λ i l u. at-most (sameFour x) (callFour (callAt t i)) (isCallOf x (record { slot = i; ids = idsOf (callAt t i) })) (elsewhere n (callAt t i))),
       )
-    where
-      not-own : (a b d : Bool) → (a && d && b) ≡ false → (a && b && (false || d)) ≡ false
-      not-own true true d e = sym (and-true d) ∙ e
-      not-own true false d e = refl
-      not-own false b d e = refl
-
-      elsewhere : (c : Call) → isCallOf x (record { slot = 0; ids = idsOf c }) ≡ false → (j : ℕ) → sameFour x (connectionAt (callFour c) j) ≡ false
-      elsewhere c e j = rw (ne-eqb (x .call) 0 n) (not-own (eqb (x .call) (c .id)) (eqb (x .lsp .sender) (c .sender)) (eqb (x .lsp .endpoint) (c .endpoint)) e)
 
   -- a call's ID is not 0
   under-none : x .call ≡ 0 → countIf (sameFour x) (below (heldAt t) slots) ≡ 0
@@ -104,7 +105,7 @@ module _ (t : Table) (k : Kept t) (x : Held) where
             (λ i l u. at-most (sameFour x) (customerFour (customerAt t i)) (isAt (x .lsp .sender) (termsOf (customerAt t i))) (λ e j. rw (e, and-false (eqb (x .call) 0)))),
       )
 
-  standalone-none : (x .call ≡ 0 → ⊥) → countIf (sameFour x) (below (standaloneAt t) 8) ≡ 0
+  pub standalone-none : (x .call ≡ 0 → ⊥) → countIf (sameFour x) (below (standaloneAt t) 8) ≡ 0
   standalone-none n = none-standalone (sameFour x) t (λ i l u j _ _. rw (ne-eqb (x .call) 0 n))
 
   pub fours-hold : countIf (sameFour x) (held t) ≤ 4

@@ -1,6 +1,6 @@
 -- `read_checkpoint` meets its contract: each answer follows from the tests before it.
 use native.Mathlib.Omega.{arith}
-use Rattle.checkpoint_read.proofs.Answered.{size-short, size-wrong, size-right, fresh-rules, fresh-free, roster-refused, size-refused, form-refused, checkpoint-read, checkpoint-refused}
+use Rattle.checkpoint_read.proofs.Answered.{size-short, size-wrong, size-right, fresh-rules, fresh-free, fresh-shaped, fresh-bare, roster-refused, size-refused, form-refused, checkpoint-read, checkpoint-refused}
 use borrow.Author.Needs.{needs}
 use Rattle.checkpoint_read.proofs.read_checkpoint.Statement.{statement}
 use Rattle.checkpoint_read.proofs.read_checkpoint.Tie as tie
@@ -92,6 +92,8 @@ read-records-requires c κs =
       k .connections-in .ensures .1,
       fresh-rules (g .salvage) (g .roster .now) (g .checkpoint .now) _ _ _ (o .read-roster .ensures .0) (o .read-roster .ensures .1) (m .roster-number .ensures) (λ j. b .shared-slice-known .given j .fits) (omega arith),
       fresh-free (g .salvage) (g .roster .now) (g .checkpoint .now) _ _ _ (o .read-roster .ensures .0) (o .read-roster .ensures .1) (m .roster-number .ensures) (omega arith),
+      fresh-shaped (g .salvage) (g .roster .now) (g .checkpoint .now) _ _ _ (o .read-roster .ensures .0) (o .read-roster .ensures .1) (m .roster-number .ensures) (omega arith),
+      fresh-bare (g .salvage) (g .roster .now) (g .checkpoint .now) _ _ _ (o .read-roster .ensures .0) (o .read-roster .ensures .1) (m .roster-number .ensures) (omega arith),
     )
 
 returns-5 : tie.Need-returns-5

@@ -3,7 +3,7 @@ use mathlib.Core.Path.{ap, _∙_}
 use Rattle.table.specs.Rules.{holds, slotsWithinTotal, rulesHold}
 use Rattle.table.specs.Words.{tableOf}
 use Rattle.table.proofs.Within.{rules-within}
-use Rattle.checkpoint_read.proofs.Turns.{calls-rules, connections-within}
+use Rattle.checkpoint_read.proofs.Turns.{calls-rules, calls-shape, calls-bare, connections-within}
 use Rattle.checkpoint_read.proofs.Answered.{read-is}
 use borrow.Author.Needs.{needs}
 use Rattle.checkpoint_read.proofs.read_records.Statement.{statement}
@@ -13,7 +13,13 @@ with-calls-requires : tie.Need-with-calls-requires
 with-calls-requires c κs = search needs
 
 with-connections-requires : tie.Need-with-connections-requires
-with-connections-requires c κs = search needs
+with-connections-requires c κs =
+    let v = c .before in
+    let z = v .before .before .before in
+    let s = z .args .s .now in
+    let fresh = tableOf (z .args .t .now) in
+    let e = v .with-calls .ensures in
+    (z .pre .0, rw e (calls-shape fresh s (z .pre .4) (z .args .calls)), rw e (calls-rules fresh s (z .pre .2) (z .args .calls)), rw e (calls-bare fresh s (z .pre .4) (z .pre .5) (z .args .calls)))
 
 open-calls-requires : tie.Need-open-calls-requires
 open-calls-requires c κs =
