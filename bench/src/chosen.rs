@@ -56,8 +56,8 @@ impl Chosen {
     }
 }
 
-/// The number y with x a + y b = 0.
-fn beside(x: u32, a: u32, b: u32) -> u32 {
+/// The number y with x a + y b = 0; b is odd.
+pub fn beside(x: u32, a: u32, b: u32) -> u32 {
     0u32.wrapping_sub(x.wrapping_mul(a)).wrapping_mul(inverse(b))
 }
 

@@ -8,8 +8,10 @@
 
 mod checkpoints;
 mod chosen;
+mod chosen_checkpoints;
 mod clock;
 mod inputs;
+mod largest;
 mod messages;
 mod output;
 mod parts;

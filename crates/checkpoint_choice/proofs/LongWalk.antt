@@ -1,5 +1,5 @@
--- Call records in chains: one more record (`chained-turn`), the walk through a record's chain (`walk-..`), which meets
--- whoever is better, and what that says of the record.
+-- Call records in chains: one more record, put there or passed over (`chained-..`), the walk through a record's chain
+-- (`walk-..`), which meets whoever is better, and what that says of the record.
 -- Assumes nothing.
 use Prim.Native.Nat.{ℕ, _+_, _-_, _<_, _≤_}
 use native.Mathlib.Nat.{eq-or-lt-of-le}
@@ -15,59 +15,71 @@ use borrow.Author.Tests.{eq-eqb, ne-eqb, ltb-true, ltb-false}
 use Rattle.lists.specs.Chain.{lastBelow, inChain, InChains}
 use Rattle.lists.proofs.Below.{every-within, every-at}
 use Rattle.lists.proofs.Tests.{both}
-use Rattle.lists.proofs.Chain.{last-within, last-itself, last-is-last, chain-noted, back-less, back-last, back-none}
+use Rattle.lists.proofs.Chain.{last-within, last-itself, last-is-last, chain-noted, chain-passed, back-less, back-last, back-none}
 use Rattle.table.specs.Lists.{idsOf}
 use Rattle.spec_checkpoint.specs.Layout.{callRecord}
+use Rattle.checkpoint_chains.specs.declared.Factors.{Factors}
 use Rattle.checkpoint_choice.specs.Ranked.{isAhead, isBetter, isBest}
 use Rattle.checkpoint_choice.specs.LongChain.{chainOf, chainAt, LongChains}
 use Rattle.checkpoint_choice.proofs.Mixed.{one-chain}
 
-pub chained-turn : (s heads links : List ℕ) (n k m : ℕ) → InChains (λ _. true) (chainAt s n) heads links k → m ≡ chainAt s n k → m < length heads
-    → k < length links → InChains (λ _. true) (chainAt s n) (set heads m (k + 1)) (set links k (getD heads m 0)) (k + 1)
-chained-turn s heads links n k m c e inside room = rw (add-one, e) (chain-noted (λ _. true) (chainAt s n) c refl (rw e at inside) room)
+-- the record of place k is sound
+abbrev pub soundAt : List ℕ → ℕ → ℕ → Bool
+soundAt sound n k = eqb (getD sound (n - 1 - k) 0) 1
+
+module _ (f : Factors) (s sound heads links : List ℕ) (n k : ℕ) (c : InChains (soundAt sound n) (chainAt f s n) heads links k) where
+  pub chained-sound : (m : ℕ) → getD sound (n - 1 - k) 0 ≡ 1 → m ≡ chainAt f s n k → m < length heads → k < length links
+      → InChains (soundAt sound n) (chainAt f s n) (set heads m (k + 1)) (set links k (getD heads m 0)) (k + 1)
+  chained-sound m is e inside room =
+      rw (add-one, e) (chain-noted (soundAt sound n) (chainAt f s n) c (eq-eqb (getD sound (n - 1 - k) 0) 1 is) (rw e at inside) room)
+
+  pub chained-unsound : (getD sound (n - 1 - k) 0 ≡ 1 → ⊥) → InChains (soundAt sound n) (chainAt f s n) heads links (k + 1)
+  chained-unsound isnt = rw add-one (chain-passed (soundAt sound n) (chainAt f s n) c (ne-eqb (getD sound (n - 1 - k) 0) 1 isnt))
 
 -- ---- the walk
 
 -- the place is in record i's chain
-abbrev inOwn : List ℕ → ℕ → ℕ → ℕ → Bool
-inOwn s n i k = inChain (λ _. true) (chainAt s n) (chainOf s i) k
+abbrev inOwn : Factors → List ℕ → List ℕ → ℕ → ℕ → ℕ → Bool
+inOwn f s sound n i k = inChain (soundAt sound n) (chainAt f s n) (chainOf f s i) k
 
 -- it has come to place e - 1 of record i's chain, and has met no better record
-pub record Walked (s sound named : List ℕ) (n i e : ℕ) : Type 0 where
+pub record Walked (f : Factors) (s sound named : List ℕ) (n i e : ℕ) : Type 0 where
   pub within : e ≤ n
-  pub last : e ≡ lastBelow (inOwn s n i) e
+  pub last : e ≡ lastBelow (inOwn f s sound n i) e
   pub none : (k : ℕ) → e ≤ k → k < n → isBetter s sound named i (n - 1 - k) ≡ true → ⊥
 
--- whoever is better is in the chain
-better-in : (s sound named : List ℕ) (n i k : ℕ) → isBetter s sound named i (n - 1 - k) ≡ true → inOwn s n i k ≡ true
+-- whoever is better is sound and in the chain
+better-in : (f : Factors) (s sound named : List ℕ) (n i k : ℕ) → isBetter s sound named i (n - 1 - k) ≡ true → inOwn f s sound n i k ≡ true
 unfolding isBetter
-better-in s sound named n i k h =
-    eq-eqb (chainAt s n k) (chainOf s i)
-    (one-chain (idsOf (callRecord s (n - 1 - k) .call)) (idsOf (callRecord s i .call)) (both (isAhead sound named i (n - 1 - k)) _ h .1))
+better-in f s sound named n i k h =
+    let b = both (isAhead sound named i (n - 1 - k)) _ h in
+    rw (both (soundAt sound n k) _ (b .0) .0)
+    (eq-eqb (chainAt f s n k) (chainOf f s i)
+    (one-chain f (idsOf (callRecord s (n - 1 - k) .call)) (idsOf (callRecord s i .call)) (b .1)))
 
-module _ {s heads links : List ℕ} {n : ℕ} (c : LongChains s heads links n) where
-  head-is : (m : ℕ) → m < 2048 → getD heads m 0 ≡ lastBelow (inChain (λ _. true) (chainAt s n) m) n
+module _ {f : Factors} {s sound heads links : List ℕ} {n : ℕ} (c : LongChains f s sound heads links n) where
+  head-is : (m : ℕ) → m < 2048 → getD heads m 0 ≡ lastBelow (inChain (soundAt sound n) (chainAt f s n) m) n
   head-is m h = c .chains .head m (rw (c .room) h)
 
   pub head-within : (m : ℕ) → m < 2048 → getD heads m 0 ≤ n
-  head-within m h = rw (head-is m h) (last-within (inChain (λ _. true) (chainAt s n) m) n)
+  head-within m h = rw (head-is m h) (last-within (inChain (soundAt sound n) (chainAt f s n) m) n)
 
-  module _ {sound named : List ℕ} {i : ℕ} where
-    pub walk-starts : (m : ℕ) → m ≡ chainOf s i → m < 2048 → Walked s sound named n i (getD heads m 0)
+  module _ {named : List ℕ} {i : ℕ} where
+    pub walk-starts : (m : ℕ) → m ≡ chainOf f s i → m < 2048 → Walked f s sound named n i (getD heads m 0)
     walk-starts m e h = rw (head-is m h, e) (record {
-      within = last-within (inOwn s n i) n;
-      last = last-itself (inOwn s n i) n;
-      none = λ k h l b. last-is-last (inOwn s n i) n k h l (better-in s sound named n i k b);
+      within = last-within (inOwn f s sound n i) n;
+      last = last-itself (inOwn f s sound n i) n;
+      none = λ k h l b. last-is-last (inOwn f s sound n i) n k h l (better-in f s sound named n i k b);
     })
 
-    module _ {e : ℕ} (w : Walked s sound named n i e) (some : 0 < e) where
+    module _ {e : ℕ} (w : Walked f s sound named n i e) (some : 0 < e) where
       pub walk-goes-back : getD links (e - 1) 0 < e
-      walk-goes-back = back-less (λ _. true) (chainAt s n) heads links n (chainOf s i) e (c .chains) some (w .within) (w .last)
+      walk-goes-back = back-less (soundAt sound n) (chainAt f s n) heads links n (chainOf f s i) e (c .chains) some (w .within) (w .last)
 
-      pub walk-goes-on : isBetter s sound named i (n - e) ≡ false → Walked s sound named n i (getD links (e - 1) 0)
+      pub walk-goes-on : isBetter s sound named i (n - e) ≡ false → Walked f s sound named n i (getD links (e - 1) 0)
       walk-goes-on worse = record {
         within = omega (arith, walk-goes-back, w .within);
-        last = back-last (λ _. true) (chainAt s n) heads links n (chainOf s i) e (c .chains) some (w .within) (w .last);
+        last = back-last (soundAt sound n) (chainAt f s n) heads links n (chainOf f s i) e (c .chains) some (w .within) (w .last);
         none = none;
       }
         where
@@ -79,8 +91,8 @@ module _ {s heads links : List ℕ} {n : ℕ} (c : LongChains s heads links n) w
 
               before : k < e - 1 → ⊥
               before q =
-                  back-none (λ _. true) (chainAt s n) heads links n (chainOf s i) e (c .chains) some (w .within) (w .last) k h q
-                  (better-in s sound named n i k b)
+                  back-none (soundAt sound n) (chainAt f s n) heads links n (chainOf f s i) e (c .chains) some (w .within) (w .last) k h q
+                  (better-in f s sound named n i k b)
 
               by : (d : Bool) → ltb k e ≡ d → ⊥
               by true q = ⊎-elim here before (eq-or-lt-of-le (omega (arith, ltb-true k e q)))
@@ -89,7 +101,7 @@ module _ {s heads links : List ℕ} {n : ℕ} (c : LongChains s heads links n) w
 -- ---- what it finds
 
 module _ (s sound named : List ℕ) (n i : ℕ) where
-  pub none-better : getD sound i 0 ≡ 1 → Walked s sound named n i 0 → true ≡ isBest s sound named n i
+  pub none-better : {f : Factors} → getD sound i 0 ≡ 1 → Walked f s sound named n i 0 → true ≡ isBest s sound named n i
   unfolding isBest
   none-better alone w = sym (rw (eq-eqb (getD sound i 0) 1 alone) (every-within _ n (λ j l. worse j l (isBetter s sound named i j) refl)))
     where

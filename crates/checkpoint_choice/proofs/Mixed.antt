@@ -17,6 +17,8 @@ use Rattle.table.specs.Rules.{sameBytes, samePair, sameLong}
 use Rattle.table.proofs.SameBytes.{same-bytes}
 use Rattle.table_words.proofs.NameBytes.{name-within}
 use Rattle.spec_checkpoint.specs.Layout.{callRecord}
+use Rattle.checkpoint_chains.specs.declared.Factors.{Factors}
+use Rattle.checkpoint_chains.specs.Spread.{mixedWith}
 use Rattle.checkpoint_choice.specs.LongChain.{longMixed, longChain}
 use Rattle.checkpoint_choice.proofs.Names.{name-long}
 
@@ -30,17 +32,17 @@ module _ (s : List ℕ) (i : ℕ) (inside : 4 + 55 * i + 55 ≤ length s) where
   counted : length (take size name) ≡ min size 32
   counted = rw (length-take size name, name-long s (4 + 55 * i + 12) (omega arith))
 
-  pub mixed-turn : (pair k a b x : ℕ) → k < min size 32 → x ≡ getD s (4 + 55 * i + 12 + k) 0
-      → longMixed pair a b (drop k (take size name)) ≡ longMixed pair (a + x) (b + (a + x)) (drop (k + 1) (take size name))
-  mixed-turn pair k a b x h e =
+  pub mixed-turn : (f : Factors) (k sum x : ℕ) → k < min size 32 → x ≡ getD s (4 + 55 * i + 12 + k) 0
+      → longMixed f sum (drop k (take size name)) ≡ longMixed f (mixedWith f sum x) (drop (k + 1) (take size name))
+  mixed-turn f k sum x h e =
       rw (add-one, drop-cons (take size name) k 0 (omega (arith, counted)), getD-take size name k 0 (omega arith), ← name-within s (4 + 55 * i + 12) 32 k (omega arith), e)
 
-  pub mixed-ends : (pair k a b : ℕ) → min size 32 ≤ k → longMixed pair a b (drop k (take size name)) ≡ pair + a * 205589543 + b * 150838921
-  mixed-ends pair k a b h = rw (drop-of-length-le (take size name) {i = k} (omega (arith, counted)))
+  pub mixed-ends : (f : Factors) (k sum : ℕ) → min size 32 ≤ k → longMixed f sum (drop k (take size name)) ≡ sum
+  mixed-ends f k sum h = rw (drop-of-length-le (take size name) {i = k} (omega (arith, counted)))
 
-pub one-chain : (c d : Ids) → sameLong c d ≡ true → longChain c ≡ longChain d
+pub one-chain : (f : Factors) (c d : Ids) → sameLong c d ≡ true → longChain f c ≡ longChain f d
 unfolding sameLong longChain
-one-chain c d h =
+one-chain f c d h =
     let k = both (samePair c d) (sameBytes (c .long) (d .long)) h in
     let m = both (eqb (c .endpoint) (d .endpoint)) (eqb (c .sender) (d .sender)) (k .0) in
     rw (eqb-true (c .endpoint) (d .endpoint) (m .0), eqb-true (c .sender) (d .sender) (m .1), same-bytes (c .long) (d .long) (k .1))

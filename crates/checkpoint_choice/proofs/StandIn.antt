@@ -16,6 +16,8 @@ use Rattle.lists.proofs.Below.{every-within, every-at}
 use Rattle.lists.proofs.Search.{first-found, first-least}
 use Rattle.lists.proofs.Chain.{last-within, last-itself, last-passes, last-is-last, chain-passed, chain-noted}
 use Rattle.spec_checkpoint.specs.Layout.{callRecord}
+use Rattle.checkpoint_chains.specs.declared.Factors.{Factors}
+use Rattle.checkpoint_chains.proofs.Places.{spread-within}
 use Rattle.checkpoint_choice.specs.Chained.{shortChain, chainOf, hasShort, sharesShort, isFirst, standIn, standInFor, Noted}
 use Rattle.checkpoint_choice.proofs.Walk.{Reached, reached-head, reached-end, reached-found, reached-less, reached-next}
 
@@ -68,8 +70,8 @@ module _ (s : List ℕ) (short endpoint sender : ℕ) where
   has-same k i h = rw (h .id, h .endpointIs, h .senderIs)
 
   -- whoever has them is of their chain
-  has-chain : (j : ℕ) → hasShort s short endpoint sender j ≡ true → chainOf s j ≡ shortChain short endpoint sender
-  has-chain j h =
+  has-chain : (f : Factors) (j : ℕ) → hasShort s short endpoint sender j ≡ true → chainOf f s j ≡ shortChain f short endpoint sender
+  has-chain f j h =
       let k = has-is s short endpoint sender j h in
       rw (k .id, k .endpointIs, k .senderIs)
 
@@ -125,61 +127,61 @@ stand-in-own s n i e found l none =
 -- ---- the search for it
 
 -- it has come to record e - 1
-abbrev pub Searched : List ℕ → ℕ → ℕ → ℕ → ℕ → ℕ → Type 0
-Searched s n short endpoint sender e = Reached (isFirst s) (chainOf s) n (shortChain short endpoint sender) (λ i. hasShort s short endpoint sender i) e
+abbrev pub Searched : Factors → List ℕ → ℕ → ℕ → ℕ → ℕ → ℕ → Type 0
+Searched f s n short endpoint sender e = Reached (isFirst s) (chainOf f s) n (shortChain f short endpoint sender) (λ i. hasShort s short endpoint sender i) e
 
-module _ (s heads links : List ℕ) (n short endpoint sender : ℕ) (k : Noted s heads links n) where
-  pub search-head : (m : ℕ) → m ≡ shortChain short endpoint sender → m < 2048 → Searched s n short endpoint sender (getD heads m 0)
-  search-head m is inside =
+module _ (f : Factors) (s heads links : List ℕ) (n short endpoint sender : ℕ) (k : Noted f s heads links n) where
+  pub search-head : (e : ℕ) → e ≡ getD heads (shortChain f short endpoint sender) 0 → Searched f s n short endpoint sender e
+  search-head e is =
       rw is
-      (reached-head (isFirst s) (chainOf s) heads links n (shortChain short endpoint sender) (λ i. hasShort s short endpoint sender i) (k .chains)
-      (has-chain s short endpoint sender) (omega (arith, k .chainCount, is)))
+      (reached-head (isFirst s) (chainOf f s) heads links n (shortChain f short endpoint sender) (λ i. hasShort s short endpoint sender i) (k .chains)
+      (has-chain s short endpoint sender f) (rw (k .chainCount) (spread-within f endpoint sender short 0)))
 
-  pub search-end : Searched s n short endpoint sender 0 → 0 ≡ standIn s n short endpoint sender
+  pub search-end : (e : ℕ) → e ≡ 0 → Searched f s n short endpoint sender e → 0 ≡ standIn s n short endpoint sender
   unfolding standIn
-  search-end r =
-      reached-end (isFirst s) (chainOf s) heads links n (shortChain short endpoint sender) (λ i. hasShort s short endpoint sender i) (k .chains)
-      (has-chain s short endpoint sender) r
+  search-end e none r =
+      reached-end (isFirst s) (chainOf f s) heads links n (shortChain f short endpoint sender) (λ i. hasShort s short endpoint sender i) (k .chains)
+      (has-chain s short endpoint sender f) (rw none at r)
 
-  module _ (e : ℕ) (some : e ≡ 0 → ⊥) (r : Searched s n short endpoint sender e) where
+  module _ (e : ℕ) (some : e ≡ 0 → ⊥) (r : Searched f s n short endpoint sender e) where
     pub search-found : hasShort s short endpoint sender (e - 1) ≡ true → e ≡ standIn s n short endpoint sender
     unfolding standIn
     search-found h =
-        reached-found (isFirst s) (chainOf s) heads links n (shortChain short endpoint sender) (λ i. hasShort s short endpoint sender i) (k .chains)
-        (has-chain s short endpoint sender) e some r h
+        reached-found (isFirst s) (chainOf f s) heads links n (shortChain f short endpoint sender) (λ i. hasShort s short endpoint sender i) (k .chains)
+        (has-chain s short endpoint sender f) e some r h
 
     pub search-less : getD links (e - 1) 0 < e
     search-less =
-        reached-less (isFirst s) (chainOf s) heads links n (shortChain short endpoint sender) (λ i. hasShort s short endpoint sender i) (k .chains)
-        (has-chain s short endpoint sender) e some r
+        reached-less (isFirst s) (chainOf f s) heads links n (shortChain f short endpoint sender) (λ i. hasShort s short endpoint sender i) (k .chains)
+        (has-chain s short endpoint sender f) e some r
 
-    pub search-next : hasShort s short endpoint sender (e - 1) ≡ false → Searched s n short endpoint sender (getD links (e - 1) 0)
+    pub search-next : hasShort s short endpoint sender (e - 1) ≡ false → Searched f s n short endpoint sender (getD links (e - 1) 0)
     search-next h =
-        reached-next (isFirst s) (chainOf s) heads links n (shortChain short endpoint sender) (λ i. hasShort s short endpoint sender i) (k .chains)
-        (has-chain s short endpoint sender) e some r h
+        reached-next (isFirst s) (chainOf f s) heads links n (shortChain f short endpoint sender) (λ i. hasShort s short endpoint sender i) (k .chains)
+        (has-chain s short endpoint sender f) e some r h
 
 -- ---- one more record noted
 
-module _ (s heads links : List ℕ) (i e : ℕ) (c : Noted s heads links i) (within : 4 + 55 * i + 55 ≤ length s) (room : i < 4096) (found : e ≡ standInFor s i i) where
-  pub noted-first : e ≡ 0 → (m : ℕ) → m ≡ chainOf s i → m < 2048 → Noted s (set heads m (i + 1)) (set links i (getD heads m 0)) (i + 1)
+module _ (f : Factors) (s heads links : List ℕ) (i e : ℕ) (c : Noted f s heads links i) (within : 4 + 55 * i + 55 ≤ length s) (room : i < 4096) (found : e ≡ standInFor s i i) where
+  pub noted-first : e ≡ 0 → (m : ℕ) → m ≡ chainOf f s i → m < 2048 → Noted f s (set heads m (i + 1)) (set links i (getD heads m 0)) (i + 1)
   noted-first none m is inside = rw (is, add-one i) (record {
     within = omega arith;
     most = omega arith;
-    chainCount = length-set heads (chainOf s i) (suc i) ∙ c .chainCount;
-    placeCount = length-set links i (getD heads (chainOf s i) 0) ∙ c .placeCount;
-    chains = chain-noted (isFirst s) (chainOf s) (c .chains) first (omega (arith, c .chainCount, is)) (omega (arith, c .placeCount));
+    chainCount = length-set heads (chainOf f s i) (suc i) ∙ c .chainCount;
+    placeCount = length-set links i (getD heads (chainOf f s i) 0) ∙ c .placeCount;
+    chains = chain-noted (isFirst s) (chainOf f s) (c .chains) first (omega (arith, c .chainCount, is)) (omega (arith, c .placeCount));
   })
     where
       first : isFirst s i ≡ true
       first = first-is s i (stand-in-none s (callRecord s i .call .id) (callRecord s i .call .endpoint) (callRecord s i .call .sender) i e found none)
 
-  pub noted-later : (e ≡ 0 → ⊥) → Noted s heads links (i + 1)
+  pub noted-later : (e ≡ 0 → ⊥) → Noted f s heads links (i + 1)
   noted-later some = rw (add-one i) (record {
     within = omega arith;
     most = omega arith;
     chainCount = c .chainCount;
     placeCount = c .placeCount;
-    chains = chain-passed (isFirst s) (chainOf s) (c .chains) (later (isFirst s i) refl);
+    chains = chain-passed (isFirst s) (chainOf f s) (c .chains) (later (isFirst s i) refl);
   })
     where
       later : (b : Bool) → isFirst s i ≡ b → isFirst s i ≡ false

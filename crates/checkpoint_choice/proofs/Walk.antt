@@ -1,31 +1,20 @@
 -- A search along a chain, from its head back: of the places that are noted it finds the last one that passes a test,
 -- where whatever passes is of that chain.
 -- Assumes nothing.
-use Prim.Native.Nat.{ℕ, zero, suc, _-_, _≤_, _<_}
-use native.Mathlib.Nat.{eq-or-lt-of-le, le-of-suc-le-suc}
+use Prim.Native.Nat.{ℕ, suc, _-_, _≤_, _<_}
 use native.Mathlib.Omega.{arith}
 use mathlib.Core.Path.{_≡_, refl, sym, ap, _∙_}
-use mathlib.Core.Logic.{⊎-elim}
 use mathlib.Core.List.{List}
 use mathlib.Core.Bool.{Bool, true, false, _&&_, and-false}
 use lib.ListN.{length, getD}
 use borrow.Author.Tests.{eq-eqb}
 use Rattle.lists.specs.Chain.{lastBelow, inChain, InChains}
 use Rattle.lists.proofs.Tests.{both}
-use Rattle.lists.proofs.Chain.{last-none, last-here, last-not, last-within, last-itself, last-is-last, back-in, back-less, back-last, back-none}
+use Rattle.lists.proofs.Chain.{last-none, last-here, last-not, last-within, last-itself, last-is-last, last-rest, back-in, back-less, back-last, back-none}
 
--- where no number from k on passes, the last one is the last one below k
-last-rest : (p : ℕ → Bool) (k n : ℕ) → k ≤ n → ((j : ℕ) → k ≤ j → j < n → p j ≡ true → ⊥) → lastBelow p n ≡ lastBelow p k
-last-rest p k zero h none = let e : k ≡ 0 = omega arith in rw e
-last-rest p k (suc n) h none =
-    ⊎-elim
-    (λ (e : k ≡ suc n). rw e)
-    (λ l. by (p n) refl (le-of-suc-le-suc l) (last-rest p k n (le-of-suc-le-suc l) (λ j a b. none j a (omega arith))))
-    (eq-or-lt-of-le h)
-  where
-    by : (b : Bool) → p n ≡ b → k ≤ n → lastBelow p n ≡ lastBelow p k → lastBelow p (suc n) ≡ lastBelow p k
-    by true e l i = absurd (none n l (omega arith) e)
-    by false e l i = last-not p n e ∙ i
+not-passed : (b : Bool) → (b ≡ true → ⊥) → b ≡ false
+not-passed true h = absurd (h refl)
+not-passed false h = refl
 
 -- the search in chain m has come to place e - 1, the last of the chain up to there, and has passed over none that passes
 pub record Reached (noted : ℕ → Bool) (chain : ℕ → ℕ) (n m : ℕ) (passes : ℕ → Bool) (e : ℕ) : Type 0 where
@@ -44,7 +33,7 @@ module _ (noted : ℕ → Bool) (chain : ℕ → ℕ) (heads links : List ℕ) (
     last = last-itself (inChain noted chain m) n;
     rest =
         last-rest (λ i. noted i && passes i) (lastBelow (inChain noted chain m) n) n (last-within (inChain noted chain m) n)
-        (λ j a b h. last-is-last (inChain noted chain m) n j a b (is-in j h));
+        (λ j a b. not-passed _ (λ h. last-is-last (inChain noted chain m) n j a b (is-in j h)));
   })
 
   pub reached-end : Reached noted chain n m passes 0 → 0 ≡ lastBelow (λ i. noted i && passes i) n
@@ -71,5 +60,5 @@ module _ (noted : ℕ → Bool) (chain : ℕ → ℕ) (heads links : List ℕ) (
           r .rest ∙ ap (λ (k : ℕ). lastBelow (λ i. noted i && passes i) k) one-back
           ∙ last-not (λ i. noted i && passes i) (e - 1) (rw (h, and-false (noted (e - 1))))
           ∙ last-rest (λ i. noted i && passes i) (getD links (e - 1) 0) (e - 1) (omega (arith, reached-less))
-          (λ j a b q. back-none noted chain heads links n m e c (omega arith) (r .within) (r .last) j a b (is-in j q));
+          (λ j a b. not-passed _ (λ q. back-none noted chain heads links n m e c (omega arith) (r .within) (r .last) j a b (is-in j q)));
     }

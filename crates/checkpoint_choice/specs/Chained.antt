@@ -1,6 +1,6 @@
 -- The call records of a checkpoint in chains, by short ID and pair: of the records that have one short ID and pair, the
 -- first stands for all. Words of contracts only: no rule cites these.
-use Prim.Native.Nat.{ℕ, _+_, _*_, _-_, _/_, _%_, _≤_}
+use Prim.Native.Nat.{ℕ, _+_, _*_, _-_, _≤_}
 use mathlib.Core.Path.{_≡_}
 use mathlib.Core.List.{List}
 use mathlib.Core.Bool.{Bool, cond, not, _&&_}
@@ -11,14 +11,16 @@ use Rattle.lists.specs.Chain.{lastBelow, InChains}
 use Rattle.table.specs.Lists.{idsOf, Held}
 use Rattle.spec_changes.specs.Connections.{isNamed}
 use Rattle.spec_checkpoint.specs.Layout.{callRecord}
+use Rattle.checkpoint_chains.specs.declared.Factors.{Factors}
+use Rattle.checkpoint_chains.specs.Spread.{spreadOver}
 
--- the chain of a short ID and a pair, one of 2,048
-unfoldable pub shortChain : ℕ → ℕ → ℕ → ℕ
-shortChain short endpoint sender = (endpoint * 199728483 + sender * 179213453 + short * 203459603) % 4294967296 / 2097152
+-- the chain of a short ID and a pair, one of 2,048, by a checkpoint's factors
+abbrev pub shortChain : Factors → ℕ → ℕ → ℕ → ℕ
+shortChain f short endpoint sender = spreadOver f endpoint sender short 0
 
 -- the chain of call record i
-abbrev pub chainOf : List ℕ → ℕ → ℕ
-chainOf s i = shortChain (callRecord s i .call .id) (callRecord s i .call .endpoint) (callRecord s i .call .sender)
+abbrev pub chainOf : Factors → List ℕ → ℕ → ℕ
+chainOf f s i = shortChain f (callRecord s i .call .id) (callRecord s i .call .endpoint) (callRecord s i .call .sender)
 
 -- call record i has this short ID and pair
 abbrev pub hasShort : List ℕ → ℕ → ℕ → ℕ → ℕ → Bool
@@ -45,17 +47,17 @@ abbrev pub standInNamed : List ℕ → ℕ → Held → ℕ
 standInNamed s n x = standIn s n (x .call) (x .lsp .endpoint) (x .lsp .sender)
 
 -- the first n call records of a checkpoint are noted: those of them that are first stand in their chains
-pub record Noted (s heads links : List ℕ) (n : ℕ) : Type 0 where
+pub record Noted (f : Factors) (s heads links : List ℕ) (n : ℕ) : Type 0 where
   pub within : 4 + 55 * n ≤ length s
   pub most : n ≤ 4096
   pub chainCount : length heads ≡ 2048
   pub placeCount : length links ≡ 4096
-  pub chains : InChains (isFirst s) (chainOf s) heads links n
+  pub chains : InChains (isFirst s) (chainOf f s) heads links n
 
 -- so are some number of them
-pub record SomeNoted (s heads links : List ℕ) : Type 0 where
+pub record SomeNoted (f : Factors) (s heads links : List ℕ) : Type 0 where
   pub calls : ℕ
-  pub noted : Noted s heads links calls
+  pub noted : Noted f s heads links calls
 
 -- counts with one more for record e - 1, and as they are where e is 0
 unfoldable pub counted : List ℕ → ℕ → List ℕ

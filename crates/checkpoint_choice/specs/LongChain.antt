@@ -1,32 +1,34 @@
 -- Call records in chains by pair and long Call ID: words of contracts only. No rule cites these. Any chains would do for
 -- the claim in which records of one pair and long Call ID stand together.
-use Prim.Native.Nat.{ℕ, _+_, _-_, _*_, _/_, _%_}
+use Prim.Native.Nat.{ℕ, _-_}
 use mathlib.Core.Path.{_≡_}
 use mathlib.Core.List.{List, [], _∷_}
-use mathlib.Core.Bool.{true}
-use lib.ListN.{length}
+use lib.Dec.{eqb}
+use lib.ListN.{length, getD}
 use Rattle.lists.specs.Chain.{InChains}
 use Rattle.table.specs.Lists.{Ids, idsOf}
 use Rattle.spec_checkpoint.specs.Layout.{callRecord}
+use Rattle.checkpoint_chains.specs.declared.Factors.{Factors}
+use Rattle.checkpoint_chains.specs.Spread.{mixedWith, spreadOver}
 
--- a pair's number, with a name's bytes summed up, and the sums summed up
-abbrev pub longMixed : ℕ → ℕ → ℕ → List ℕ → ℕ
-longMixed pair a b [] = pair + a * 205589543 + b * 150838921
-longMixed pair a b (x ∷ l) = longMixed pair (a + x) (b + (a + x)) l
+-- a name's bytes mixed into a number one after another
+abbrev pub longMixed : Factors → ℕ → List ℕ → ℕ
+longMixed f sum [] = sum
+longMixed f sum (x ∷ l) = longMixed f (mixedWith f sum x) l
 
--- the chain of a pair and long Call ID, one of 2,048: the highest 11 of the sum's low 32 bits
-unfoldable pub longChain : Ids → ℕ
-longChain c = longMixed (c .endpoint * 199728483 + c .sender * 179213453) 0 0 (c .long) % 4294967296 / 2097152
+-- the chain of a pair and long Call ID, one of 2,048, by a checkpoint's factors
+unfoldable pub longChain : Factors → Ids → ℕ
+longChain f c = spreadOver f (c .endpoint) (c .sender) (longMixed f 0 (c .long)) 0
 
 -- of a checkpoint's record i
-abbrev pub chainOf : List ℕ → ℕ → ℕ
-chainOf s i = longChain (idsOf (callRecord s i .call))
+abbrev pub chainOf : Factors → List ℕ → ℕ → ℕ
+chainOf f s i = longChain f (idsOf (callRecord s i .call))
 
 -- of place k in the chains of n records: the last record stands in place 0
-abbrev pub chainAt : List ℕ → ℕ → ℕ → ℕ
-chainAt s n k = chainOf s (n - 1 - k)
+abbrev pub chainAt : Factors → List ℕ → ℕ → ℕ → ℕ
+chainAt f s n k = chainOf f s (n - 1 - k)
 
--- all n records stand in their chains
-pub record LongChains (s heads links : List ℕ) (n : ℕ) : Type 0 where
+-- those of n records that are sound stand in their chains
+pub record LongChains (f : Factors) (s sound heads links : List ℕ) (n : ℕ) : Type 0 where
   pub room : length heads ≡ 2048
-  pub chains : InChains (λ _. true) (chainAt s n) heads links n
+  pub chains : InChains (λ k. eqb (getD sound (n - 1 - k) 0) 1) (chainAt f s n) heads links n

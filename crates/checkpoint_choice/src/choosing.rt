@@ -16,6 +16,9 @@ ghost use Rattle.spec_checkpoint.specs.Salvage.{soundAlone};
 ghost use Rattle.checkpoint_choice.specs.Ranked.{Filled, isBetter, isBest};
 ghost use Rattle.checkpoint_choice.specs.LongChain.{chainOf, LongChains};
 use crate::naming::sized;
+use checkpoint_chains::Factors;
+use checkpoint_chains::mixed;
+use checkpoint_chains::spread;
 use checkpoint_salvage::placing::sound_alone;
 use lists::one_if;
 use lists::to_usize;
@@ -96,45 +99,54 @@ fn is_better(s: &[u8], sound: &[u8; 4096], named: &[u16; 4096], i: usize, j: usi
 }
 
 // The chain of record i's pair and long Call ID, one of 2,048.
-fn long_chain(s: &[u8], i: usize) -> usize
+fn long_chain(s: &[u8], f: Factors, i: usize) -> usize
     requires { ⌜ 4 + 55 * i + 55 ≤ length (now s) ⌝ }
-    ensures { λ r. ⌜ (r ≡ chainOf (now (s .entry)) i) × (r < 2048) ⌝ }
+    ensures { λ r. ⌜ (r ≡ chainOf f (now (s .entry)) i) × (r < 2048) ⌝ }
 {
     let at = 4 + 55 * i;
     let n = size_at(s, i);
-    let mut a: usize = 0;
-    let mut b: usize = 0;
+    let mut sum: u32 = 0;
     let mut k: usize = 0;
     while k < n {
-        a += to_usize(s[at + 12 + k]);
-        b += a;
+        sum = mixed(f, sum, to_usize(s[at + 12 + k]) as u32);
         k += 1;
     }
-    let pair = (get32(s, at + 3) as usize) * 199728483 + (get32(s, at + 7) as usize) * 179213453;
-    (pair + a * 205589543 + b * 150838921) % 4294967296 / 2097152
+    spread(f, get32(s, at + 3), get32(s, at + 7), sum, 0)
 }
 
-// The records in chains by pair and long Call ID, the last record first, so that a walk meets the first record first,
-// the one kept of those that are named alike. Place k in the chains has record calls - 1 - k. The caller lends heads of
-// zeros, and links: what these hold before does not matter.
-pub fn long_chains(s: &[u8], heads: &mut [u16; 2048], links: &mut [u16; 4096], calls: usize)
+// The records that are sound in chains by pair and long Call ID, the last record first, so that a walk meets the first
+// record first, the one kept of those that are named alike. One that is not sound is never better than another: no walk
+// need pass it. Place k in the chains is for record calls - 1 - k. The caller lends heads of zeros, and links: what
+// these hold before does not matter.
+pub fn long_chains(
+    s: &[u8],
+    f: Factors,
+    sound: &[u8; 4096],
+    heads: &mut [u16; 2048],
+    links: &mut [u16; 4096],
+    calls: usize,
+)
     requires { ⌜ (4 + 55 * calls ≤ length (now s)) × (calls ≤ 4096) × (now heads ≡ replicate 2048 0) ⌝ }
-    ensures { λ _. ⌜ LongChains (now (s .entry)) (now (heads .exit)) (now (links .exit)) calls ⌝ }
+    ensures { λ _. ⌜ LongChains f (now (s .entry)) (now (sound .entry)) (now (heads .exit)) (now (links .exit)) calls ⌝ }
 {
     sized(links);
     let mut k: usize = 0;
     while k < calls {
-        let m = long_chain(s, calls - 1 - k);
-        links[k] = heads[m];
-        heads[m] = (k + 1) as u16;
+        let i = calls - 1 - k;
+        if sound[i] == 1 {
+            let m = long_chain(s, f, i);
+            links[k] = heads[m];
+            heads[m] = (k + 1) as u16;
+        }
         k += 1;
     }
 }
 
-// Record i is kept. Whoever is better has the same pair and long Call ID, so that the walk through the chain meets it.
-// The chains are those that `long_chains` made.
+// Record i is kept. Whoever is better is sound and has the same pair and long Call ID, so that the walk through the
+// chain meets it. The chains are those that `long_chains` made.
 pub fn is_best(
     s: &[u8],
+    f: Factors,
     heads: &[u16; 2048],
     links: &[u16; 4096],
     sound: &[u8; 4096],
@@ -142,13 +154,13 @@ pub fn is_best(
     calls: usize,
     i: usize,
 ) -> bool
-    requires { ⌜ (4 + 55 * calls ≤ length (now s)) × (calls ≤ 4096) × (i < calls) × LongChains (now s) (now heads) (now links) calls ⌝ }
+    requires { ⌜ (4 + 55 * calls ≤ length (now s)) × (calls ≤ 4096) × (i < calls) × LongChains f (now s) (now sound) (now heads) (now links) calls ⌝ }
     ensures { λ b. ⌜ b ≡ isBest (now (s .entry)) (now (sound .entry)) (now (named .entry)) calls i ⌝ }
 {
     if sound[i] != 1 {
         return false;
     }
-    let mut e = heads[long_chain(s, i)] as usize;
+    let mut e = heads[long_chain(s, f, i)] as usize;
     while e != 0 {
         if is_better(s, sound, named, i, calls - e) {
             return false;

@@ -10,6 +10,8 @@ ghost use Rattle.spec_checkpoint.specs.Salvage.{namedBy};
 ghost use Rattle.checkpoint_choice.specs.Sized.{Sized};
 ghost use Rattle.checkpoint_choice.specs.Ranked.{Filled};
 ghost use Rattle.checkpoint_choice.specs.Chained.{shortChain, hasShort, standIn, standInFor, standInNamed, Noted, SomeNoted, counted};
+use checkpoint_chains::Factors;
+use checkpoint_chains::spread;
 use numbers::big_endian::get16;
 use numbers::big_endian::get32;
 
@@ -26,13 +28,10 @@ pub(crate) fn sized(links: &[u16; 4096])
 }
 
 // The chain of a short ID and a pair, one of 2,048.
-fn short_chain(short: u16, endpoint: u32, sender: u32) -> usize
-    ensures { λ r. ⌜ (r ≡ shortChain short endpoint sender) × (r < 2048) ⌝ }
+fn short_chain(f: Factors, short: u16, endpoint: u32, sender: u32) -> usize
+    ensures { λ r. ⌜ (r ≡ shortChain f short endpoint sender) × (r < 2048) ⌝ }
 {
-    let mixed = (endpoint as u64) * 199728483
-        + (sender as u64) * 179213453
-        + (short as u64) * 203459603;
-    (mixed % 4294967296 / 2097152) as usize
+    spread(f, endpoint, sender, short as u32, 0)
 }
 
 // Call record i has this short ID and pair.
@@ -48,16 +47,17 @@ fn is_short(s: &[u8], i: usize, short: u16, endpoint: u32, sender: u32) -> bool
 // has them. How many are noted is for the caller to say.
 fn find(
     s: &[u8],
+    f: Factors,
     heads: &[u16; 2048],
     links: &[u16; 4096],
     short: u16,
     endpoint: u32,
     sender: u32,
 ) -> usize
-    requires { ⌜ SomeNoted (now s) (now heads) (now links) ⌝ }
-    ensures { λ e. ⌜ ((n : ℕ) → Noted (now (s .entry)) (now (heads .entry)) (now (links .entry)) n → e ≡ standIn (now (s .entry)) n short endpoint sender) ⌝ }
+    requires { ⌜ SomeNoted f (now s) (now heads) (now links) ⌝ }
+    ensures { λ e. ⌜ ((n : ℕ) → Noted f (now (s .entry)) (now (heads .entry)) (now (links .entry)) n → e ≡ standIn (now (s .entry)) n short endpoint sender) ⌝ }
 {
-    let mut e = heads[short_chain(short, endpoint, sender)] as usize;
+    let mut e = heads[short_chain(f, short, endpoint, sender)] as usize;
     while e != 0 {
         if is_short(s, e - 1, short, endpoint, sender) {
             return e;
@@ -68,16 +68,16 @@ fn find(
 }
 
 // Notes call record i: it is put into its chain, unless an earlier one stands for it.
-fn note_call(s: &[u8], heads: &mut [u16; 2048], links: &mut [u16; 4096], i: usize)
-    requires { ⌜ Noted (now s) (now heads) (now links) i × (4 + 55 * i + 55 ≤ length (now s)) × (i < 4096) ⌝ }
-    ensures { λ _. ⌜ Noted (now (s .entry)) (now (heads .exit)) (now (links .exit)) (i + 1) ⌝ }
+fn note_call(s: &[u8], f: Factors, heads: &mut [u16; 2048], links: &mut [u16; 4096], i: usize)
+    requires { ⌜ Noted f (now s) (now heads) (now links) i × (4 + 55 * i + 55 ≤ length (now s)) × (i < 4096) ⌝ }
+    ensures { λ _. ⌜ Noted f (now (s .entry)) (now (heads .exit)) (now (links .exit)) (i + 1) ⌝ }
 {
     let at = 4 + 55 * i;
     let short = get16(s, at + 1);
     let endpoint = get32(s, at + 3);
     let sender = get32(s, at + 7);
-    if find(s, heads, links, short, endpoint, sender) == 0 {
-        let m = short_chain(short, endpoint, sender);
+    if find(s, f, heads, links, short, endpoint, sender) == 0 {
+        let m = short_chain(f, short, endpoint, sender);
         links[i] = heads[m];
         heads[m] = (i + 1) as u16;
     }
@@ -86,16 +86,18 @@ fn note_call(s: &[u8], heads: &mut [u16; 2048], links: &mut [u16; 4096], i: usiz
 // Counts the connection record at a place, for the call record that stands for those that it names.
 fn count_connection(
     s: &[u8],
+    f: Factors,
     heads: &[u16; 2048],
     links: &[u16; 4096],
     counts: &mut [u16; 4096],
     at: usize,
 )
-    requires { ⌜ Noted (now s) (now heads) (now links) (callsIn (now s)) × (at + 18 ≤ length (now s)) × ((j : ℕ) → getD (now counts) j 0 < 65535) ⌝ }
+    requires { ⌜ Noted f (now s) (now heads) (now links) (callsIn (now s)) × (at + 18 ≤ length (now s)) × ((j : ℕ) → getD (now counts) j 0 < 65535) ⌝ }
     ensures { λ _. ⌜ now (counts .exit) ≡ counted (now (counts .entry)) (standInNamed (now (s .entry)) (callsIn (now (s .entry))) (heldAtByte (now (s .entry)) at)) ⌝ }
 {
     let e = find(
         s,
+        f,
         heads,
         links,
         get16(s, at + 4),
@@ -108,13 +110,21 @@ fn count_connection(
 }
 
 // Gives call record i what is counted for the one that stands for it.
-fn count_for(s: &[u8], heads: &[u16; 2048], links: &[u16; 4096], counts: &mut [u16; 4096], i: usize)
-    requires { ⌜ Noted (now s) (now heads) (now links) (callsIn (now s)) × (i < callsIn (now s)) ⌝ }
+fn count_for(
+    s: &[u8],
+    f: Factors,
+    heads: &[u16; 2048],
+    links: &[u16; 4096],
+    counts: &mut [u16; 4096],
+    i: usize,
+)
+    requires { ⌜ Noted f (now s) (now heads) (now links) (callsIn (now s)) × (i < callsIn (now s)) ⌝ }
     ensures { λ _. ⌜ now (counts .exit) ≡ set (now (counts .entry)) i (getD (now (counts .entry)) (standInFor (now (s .entry)) (callsIn (now (s .entry))) i - 1) 0) ⌝ }
 {
     let at = 4 + 55 * i;
     let e = find(
         s,
+        f,
         heads,
         links,
         get16(s, at + 1),
@@ -127,6 +137,7 @@ fn count_for(s: &[u8], heads: &[u16; 2048], links: &[u16; 4096], counts: &mut [u
 // How many connection records name each call record. The links are lent, to save stack: what they hold does not matter.
 pub fn named_counts(
     s: &[u8],
+    f: Factors,
     links: &mut [u16; 4096],
     calls: usize,
     connections: usize,
@@ -139,18 +150,18 @@ pub fn named_counts(
     let mut counts: [u16; 4096] = [0; 4096];
     let mut i: usize = 0;
     while i < calls {
-        note_call(s, &mut heads, links, i);
+        note_call(s, f, &mut heads, links, i);
         i += 1;
     }
     let base = 4 + 55 * calls;
     let mut k: usize = 0;
     while k < connections {
-        count_connection(s, &heads, links, &mut counts, base + 18 * k);
+        count_connection(s, f, &heads, links, &mut counts, base + 18 * k);
         k += 1;
     }
     i = 0;
     while i < calls {
-        count_for(s, &heads, links, &mut counts, i);
+        count_for(s, f, &heads, links, &mut counts, i);
         i += 1;
     }
     counts

@@ -1,25 +1,25 @@
--- Whether a connection fits, by a look at a part of the table: it does not where that part already holds it, or has its
--- four; where its call stands in a slot of a table that keeps the rules, that slot has all of its four (`fits-there`).
+-- Whether a connection fits: it does not where it is held already, or its four are full; where its call stands in a slot
+-- of a table that keeps the rules, that slot has all of its four (`fits-there`).
 -- Assumes nothing.
-use Prim.Native.Nat.{ℕ, zero, suc, _+_, _≤_, _<_}
+use Prim.Native.Nat.{ℕ, zero, suc, _≤_, _<_}
 use native.Mathlib.Nat.{eq-or-lt-of-le, le-of-suc-le-suc, not-suc-le-zero}
 use native.Mathlib.Omega.{arith}
-use mathlib.Core.Path.{_≡_, refl, sym, ap, _∙_}
+use mathlib.Core.Path.{_≡_, refl, sym, _∙_}
 use mathlib.Core.Logic.{⊎-elim}
-use mathlib.Core.List.{List, []}
-use mathlib.Core.Bool.{Bool, true, false, cond, not, _&&_, _||_, and-false}
-use lib.Dec.{ltb, leb, eqb}
-use borrow.Author.Tests.{ne-eqb, eqb-true, leb-true, leb-false, lt-ltb, le-ltb}
+use mathlib.Core.List.{List}
+use mathlib.Core.Bool.{Bool, true, false, not, _&&_, and-false, true≢false}
+use lib.Dec.{ltb, eqb}
+use borrow.Author.Tests.{eq-eqb, ne-eqb, eqb-true, lt-ltb, le-ltb, not-false}
 use Rattle.lists.specs.Count.{bit, countIf, has}
-use Rattle.lists.specs.Below.{below, listIf}
+use Rattle.lists.specs.Below.{below, elementIf}
 use Rattle.lists.proofs.Tests.{both}
-use Rattle.lists.proofs.Count.{has-true, true-has, count-append, no-bit}
-use Rattle.lists.proofs.Below.{count-element, count-list-if, count-not-list-if, count-at, count-below, count-nowhere}
+use Rattle.lists.proofs.Count.{true-has, false-has, some-bit, count-append, one-bit}
+use Rattle.lists.proofs.Below.{count-element, count-list-if, count-not-list-if, count-at, count-none, count-below, count-nowhere}
 use Rattle.lists.proofs.Shown.{count-shown}
 use Rattle.table.specs.Table.{Table}
 use Rattle.table.specs.Total.{slots}
 use Rattle.table.specs.Word.{isUsed}
-use Rattle.table.specs.Lists.{roster, callAt, idsOf, Entry, openAt, entries, Held, callFour, placeAt, isTaken, connectionAt, heldIn, heldAt, standaloneAt, held}
+use Rattle.table.specs.Lists.{customerAt, termsOf, roster, callAt, idsOf, Entry, openAt, entries, Held, callFour, customerFour, placeAt, isTaken, connectionAt, heldIn, heldAt, standaloneAt, held}
 use Rattle.table.specs.Share.{isListed}
 use Rattle.table.specs.Rules.{sameConnection, rulesHold}
 use Rattle.spec_changes.specs.Calls.{slotOf}
@@ -31,12 +31,10 @@ use Rattle.spec_changes.proofs.Slot.{found-slot}
 use Rattle.spec_changes.proofs.Tables.{added-under}
 use Rattle.spec_changes.proofs.Told.{rules-kept}
 use Rattle.spec_changes.proofs.Valid.{ids-named}
-use Rattle.find_connection.specs.declared.standalone.StandaloneLook.{StandaloneLook}
-use Rattle.find_connection.specs.Looks.{standaloneLookOf}
 use Rattle.spec_checkpoint.specs.Salvage.{connectionFits}
 use Rattle.spec_checkpoint.proofs.AllKept.{one-place}
-use Rattle.spec_checkpoint.proofs.Fours.{one-call, elsewhere, standalone-none}
-use Rattle.checkpoint_connections.specs.Marks.{Roomy, Glanced}
+use Rattle.spec_checkpoint.proofs.Fours.{at-most, rows-bound, one-call, elsewhere, under-none, standalone-none, call-sender}
+use Rattle.checkpoint_connections.specs.Cells.{isCallIn, CallFound}
 
 -- where one place alone has what passes a test
 only-at : {A : Type 0} (f : ℕ → List A) (p : A → Bool) (i n : ℕ) → i < n → ((j : ℕ) → j < n → (j ≡ i → ⊥) → countIf p (f j) ≡ 0)
@@ -47,6 +45,20 @@ only-at f p i (suc n) l h =
     (λ (e : i ≡ n). rw e (omega (arith, count-below f p n, count-nowhere p f n (λ j b. h j (omega arith) (λ (q : j ≡ i). omega arith)))))
     (λ (b : i < n). omega (arith, count-below f p n, only-at f p i n b (λ j c q. h j (omega arith) q), h n (omega arith) (λ (q : n ≡ i). omega arith)))
     (eq-or-lt-of-le (le-of-suc-le-suc l))
+
+module _ (t : Table) (x : Held) (i : ℕ) where
+  not-there : (j : ℕ) → (j ≡ i → ⊥) → countIf (isCallIn x i) (openAt t j) ≡ 0
+  not-there j n = rw (count-element (isCallIn x i) (isUsed (t .occupied) j) (record { slot = j; ids = idsOf (callAt t j) }), ne-eqb i j (λ (e : i ≡ j). n (sym e)), and-false (isUsed (t .occupied) j))
+
+  -- a slot has a connection's call
+  pub call-in : i < slots → has (isCallIn x i) (entries t) ≡ (isUsed (t .occupied) i && isUnder (idsOf (callAt t i)) x)
+  call-in l =
+      let e : countIf (isCallIn x i) (entries t) ≡ bit (isUsed (t .occupied) i && (eqb i i && isUnder (idsOf (callAt t i)) x)) =
+      only-at (openAt t) (isCallIn x i) i slots l (λ j _ n. not-there j n) ∙ count-element (isCallIn x i) (isUsed (t .occupied) i) (record { slot = i; ids = idsOf (callAt t i) }) in
+      rw (e, eq-eqb i i refl) (some-bit (isUsed (t .occupied) i && isUnder (idsOf (callAt t i)) x))
+
+  pub call-out : slots ≤ i → has (isCallIn x i) (entries t) ≡ false
+  call-out l = false-has (isCallIn x i) (entries t) (count-nowhere (isCallIn x i) (openAt t) slots (λ j b. not-there j (λ (e : j ≡ i). omega arith)))
 
 module _ (t : Table) (x : Held) where
   -- ---- it does not fit
@@ -63,9 +75,13 @@ module _ (t : Table) (x : Held) where
   unfolding connectionFits
   unfit-missing n h = rw (n, h, and-false (isListed (roster t) (x .lsp .sender) && not (has (sameConnection x) (held t))))
 
+  pub unfit-unlisted : isListed (roster t) (x .lsp .sender) ≡ false → connectionFits t x ≡ false
+  unfolding connectionFits
+  unfit-unlisted h = rw h
+
   -- what stands with the customers is held
-  pub standalone-within : (p : Held → Bool) → countIf p (below (standaloneAt t) 8) ≤ countIf p (held t)
-  standalone-within p = omega (arith, count-append p (below (heldAt t) slots) (below (standaloneAt t) 8))
+  pub unfit-alone : 4 ≤ countIf (sameFour x) (below (standaloneAt t) 8) → connectionFits t x ≡ false
+  unfit-alone h = unfit-full (omega (arith, count-append (sameFour x) (below (heldAt t) slots) (below (standaloneAt t) 8)))
 
   -- ---- its call stands in a slot
 
@@ -127,11 +143,16 @@ module _ (t : Table) (x : Held) where
               all-own,
             )
 
-        -- there, it fits where it is held nowhere and its sender is listed
-        pub fits-there : countIf (λ y. true) (heldIn (callFour (callAt t i))) < 4 → has (sameConnection x) (held t) ≡ false → isListed (roster t) (x .lsp .sender) ≡ true
-            → connectionFits t x ≡ true
+        -- its sender is the call's, who is listed
+        known : isListed (roster t) (x .lsp .sender) ≡ true
+        known =
+            let m = both (eqb (x .call) (callAt t i .id) && eqb (x .lsp .endpoint) (callAt t i .endpoint)) (eqb (x .lsp .sender) (callAt t i .sender)) own in
+            rw (eqb-true (x .lsp .sender) (callAt t i .sender) (m .1)) (not-false _ (call-sender t k i inside used))
+
+        -- there, it fits where it is held nowhere
+        pub fits-there : countIf (λ y. true) (heldIn (callFour (callAt t i))) < 4 → has (sameConnection x) (held t) ≡ false → connectionFits t x ≡ true
         unfolding connectionFits
-        fits-there room new known =
+        fits-there room new =
             rw (
               known,
               new,
@@ -140,50 +161,58 @@ module _ (t : Table) (x : Held) where
               lt-ltb (countIf (sameFour x) (held t)) 4 (omega (arith, four-is, room)),
             )
 
--- ---- what a look says
+  -- where its call is found: full, or with room
+  module _ (i : ℕ) (c : CallFound t x i) (inside : i < slots) where
+    pub unfit-there : 4 ≤ countIf (λ y. true) (heldIn (callFour (callAt t i))) → connectionFits t x ≡ false
+    unfit-there h = unfit-full (omega (arith, all-own i inside (c .used inside) (c .own inside), slot-within i inside (c .used inside) (sameFour x)))
 
-never : {P : Type 0} → false ≡ true → P
-never e = let z : _≡_ {A = ℕ} 0 1 = cc in let n : ⊥ = omega arith in absurd n
+    module _ (rules : rulesHold t ≡ true) where
+      pub fits-found : countIf (λ y. true) (heldIn (callFour (callAt t i))) < 4 → has (sameConnection x) (held t) ≡ false → connectionFits t x ≡ true
+      fits-found = fits-there i inside (c .used inside) (c .own inside) (rules-kept t rules)
 
-pub nothing-seen : (t : Table) (x : Held) → Glanced t x false false 0
-nothing-seen t x = record { dropped = λ e. never e; there = λ e. never e }
+      pub added-found : addedUnder t i (x .lsp) ≡ added t x
+      added-found =
+          let k = rules-kept t rules in
+          added-under t x i (ne-eqb (x .call) 0 (named i inside (c .used inside) (c .own inside) k)) (slot-is i inside (c .used inside) (c .own inside) k)
 
--- that it does not fit
-pub unfit-seen : (t : Table) (x : Held) (b : Bool) → (b ≡ true → connectionFits t x ≡ false) → Glanced t x b false 0
-unfit-seen t x b h = record { dropped = h; there = λ e. never e }
+  -- ---- with Call ID 0
 
--- in a slot that holds its call
-pub slot-seen : (t : Table) (x : Held) (i : ℕ) (full have : Bool) → i < slots → isUsed (t .occupied) i ≡ true → isUnder (idsOf (callAt t i)) x ≡ true
-    → full ≡ leb 4 (countIf (λ y. true) (heldIn (callFour (callAt t i)))) → have ≡ has (sameConnection x) (heldIn (callFour (callAt t i)))
-    → Glanced t x (full || have) (not full) i
-slot-seen t x i full have inside used own f h = record { dropped = by full have f h; there = λ e. record { inside = inside; used = used; own = own; room = room full f e } }
+  -- all of its four stand with the customers
+  pub fits-alone : rulesHold t ≡ true → x .call ≡ 0 → isListed (roster t) (x .lsp .sender) ≡ true → has (sameConnection x) (held t) ≡ false
+      → countIf (sameFour x) (below (standaloneAt t) 8) < 4 → connectionFits t x ≡ true
+  unfolding connectionFits
+  fits-alone rules none known new room =
+      rw (
+        known,
+        new,
+        eq-eqb (x .call) 0 none,
+        lt-ltb (countIf (sameFour x) (held t)) 4 (omega (arith, count-append (sameFour x) (below (heldAt t) slots) (below (standaloneAt t) 8), under-none t (rules-kept t rules) x none, room)),
+      )
+
+-- ---- how many are held
+
+-- one at most in each place
+most-below : {A : Type 0} (u : ℕ → Bool) (y : ℕ → A) (n : ℕ) → countIf (λ x. true) (below (λ i. elementIf (u i) (y i)) n) ≤ n
+most-below u y zero = omega (arith, count-none (λ i. elementIf (u i) (y i)) (λ x. true))
+most-below u y (suc n) =
+    omega (arith, count-below (λ i. elementIf (u i) (y i)) (λ x. true) n, count-element (λ x. true) (u n) (y n), one-bit (u n && true), most-below u y n)
+
+-- at most as many as there are places
+pub held-most : (t : Table) → countIf (λ y. true) (held t) ≤ 832
+held-most t =
+    omega (
+      arith,
+      count-append (λ y. true) (below (heldAt t) slots) (below (standaloneAt t) 8),
+      rows-bound (λ y. true) (λ e. true) (isUsed (t .occupied)) (λ i. heldIn (callFour (callAt t i))) call slots
+          (λ i l u. at-most (λ y. true) (callFour (callAt t i)) true (λ e. never e)),
+      most-below (isUsed (t .occupied)) call slots,
+      rows-bound (λ y. true) (λ e. true) (λ i. ltb i (t .listed)) (λ i. heldIn (customerFour (customerAt t i))) (λ i. termsOf (customerAt t i)) 8
+          (λ i l u. at-most (λ y. true) (customerFour (customerAt t i)) true (λ e. never e)),
+      most-below (λ i. ltb i (t .listed)) (λ i. termsOf (customerAt t i)) 8,
+    )
   where
-    by : (full have : Bool) → full ≡ leb 4 (countIf (λ y. true) (heldIn (callFour (callAt t i)))) → have ≡ has (sameConnection x) (heldIn (callFour (callAt t i)))
-        → (full || have) ≡ true → connectionFits t x ≡ false
-    by true have f h e = unfit-full t x (omega (arith, leb-true 4 (countIf (λ (y : Held). true) (heldIn (callFour (callAt t i)))) (sym f), all-own t x i inside used own, slot-within t x i inside used (sameFour x)))
-    by false true f h e = unfit-held t x (omega (arith, has-true (sameConnection x) (heldIn (callFour (callAt t i))) (sym h), slot-within t x i inside used (sameConnection x)))
-    by false false f h e = never e
+    call : ℕ → Entry
+    call i = record { slot = i; ids = idsOf (callAt t i) }
 
-    room : (full : Bool) → full ≡ leb 4 (countIf (λ y. true) (heldIn (callFour (callAt t i)))) → not full ≡ true → countIf (λ y. true) (heldIn (callFour (callAt t i))) < 4
-    room false f e = omega (arith, leb-false 4 (countIf (λ (y : Held). true) (heldIn (callFour (callAt t i)))) (sym f))
-    room true f e = never e
-
--- with Call ID 0
-pub standalone-seen : (t : Table) (x : Held) (l : StandaloneLook) → l ≡ standaloneLookOf t x → Glanced t x (l .held || leb 4 (l .four)) false 0
-unfolding standaloneLookOf
-standalone-seen t x l e =
-    rw e (unfit-seen t x _ (by (has (sameConnection x) (below (standaloneAt t) 8)) (leb 4 (countIf (sameFour x) (below (standaloneAt t) 8))) refl refl))
-  where
-    by : (have full : Bool) → have ≡ has (sameConnection x) (below (standaloneAt t) 8) → full ≡ leb 4 (countIf (sameFour x) (below (standaloneAt t) 8))
-        → (have || full) ≡ true → connectionFits t x ≡ false
-    by true full h f e = unfit-held t x (omega (arith, has-true (sameConnection x) (below (standaloneAt t) 8) (sym h), standalone-within t x (sameConnection x)))
-    by false true h f e = unfit-full t x (omega (arith, leb-true 4 (countIf (sameFour x) (below (standaloneAt t) 8)) (sym f), standalone-within t x (sameFour x)))
-    by false false h f e = never e
-
--- a connection that is held nowhere, and is added where its call stands
-pub added-there : (t : Table) (x : Held) (i : ℕ) → rulesHold t ≡ true → Roomy t x i → has (sameConnection x) (held t) ≡ false → isListed (roster t) (x .lsp .sender) ≡ true
-    → addedUnder t i (x .lsp) ≡ cond (connectionFits t x) (added t x) t
-added-there t x i rules r new known =
-    let k = rules-kept t rules in
-    rw (fits-there t x i (r .inside) (r .used) (r .own) k (r .room) new known)
-    (added-under t x i (ne-eqb (x .call) 0 (named t x i (r .inside) (r .used) (r .own) k)) (slot-is t x i (r .inside) (r .used) (r .own) k))
+    never : {P : Type 0} → true ≡ false → P
+    never e = absurd (true≢false e)

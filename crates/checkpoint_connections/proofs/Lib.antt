@@ -1,2 +1,3 @@
-pub mod Noted
+pub mod Cells
 pub mod Fits
+pub mod InCells

@@ -1,116 +1,117 @@
-// The connections of a checkpoint, one after another: what the marks say of a connection is asked first, and the whole
-// table only where they leave it open.
+// The connections of a checkpoint, one after another, each added where it fits. What the table holds stands in cells, so
+// that a connection, and its call, are found without a search through the table.
 ghost use mathlib.Core.Path.{_≡_};
-ghost use mathlib.Core.Bool.{true, false, cond};
-ghost use Prim.Native.Nat.{_<_};
-ghost use Rattle.table.specs.Total.{slots};
-ghost use Rattle.table.specs.Lists.{entries};
-ghost use Rattle.table.specs.Rules.{placeValid};
+ghost use mathlib.Core.Bool.{cond, true, false};
+ghost use Prim.Native.Nat.{_+_, _<_};
+ghost use lib.ListN.{length};
+ghost use lib.Dec.{eqb};
 ghost use Rattle.table.specs.Words.{tableOf};
-ghost use Rattle.spec_changes.specs.Connections.{placeFor, added};
-ghost use Rattle.spec_calls.specs.PathRules.{lspOf, heldBy};
+ghost use Rattle.spec_changes.specs.Connections.{added};
+ghost use Rattle.spec_calls.specs.PathRules.{heldBy};
+ghost use Rattle.spec_checkpoint.specs.Layout.{callsIn, connectionsIn, checkpointSize, connectionRecord};
 ghost use Rattle.spec_checkpoint.specs.Salvage.{connectionFits};
-ghost use Rattle.checkpoint_connections.specs.Marks.{callMark, Marked, Marking, Glanced};
-use crate::marks::Marks;
-use crate::marks::call_mark;
-use crate::marks::connection_mark;
-use checkpoint_salvage::adding::with_connection;
+ghost use Rattle.checkpoint_connections.specs.Cells.{TableInCells};
+use crate::calls::CallCells;
+use crate::calls::find_call;
+use crate::connections::HeldCells;
+use crate::connections::seek;
+use checkpoint_chains::Factors;
+use checkpoint_records::read::connection_record;
 use find_call::share::listing_of;
-use find_connection::four::holds;
 use find_connection::standalone::look_standalone;
-use find_connection::under::is_named;
 use fours::taken_in;
-use lists::to_usize;
 use messages::message::Connection;
-use occupancy::is_used;
 use table::layout::SLOTS;
 use table::layout::Words;
-use table_words::calls::CallWord;
 use table_words::fours::call_four;
 use table_words::ids::is_no_call;
+use update_connection::add_standalone;
 use update_connection::add_under;
+use update_connection::customer_of;
 
-pub mod marks;
+pub mod calls;
+pub mod connections;
 
-// What a quick look says of a connection: that it does not fit; or that its call, whose four are not full, stands in a
-// slot.
-pub struct Glance {
-    pub unfit: bool,
-    pub known: bool,
-    pub slot: usize,
-}
-
-// Nothing is known of the connection's call.
-fn no_call_seen(unfit: bool) -> Glance
-    ensures { λ r. ⌜ r ≡ record { unfit = unfit; known = false; slot = 0 } ⌝ }
+// Record k, of a Call ID other than 0: its call is open, its four are not full, and it is held nowhere. Here and below,
+// what the table holds stands in cells: whoever asks has put it there.
+fn keep_under(
+    t: &mut Words,
+    s: &[u8],
+    f: Factors,
+    kept: &CallCells,
+    held: &mut HeldCells,
+    calls: usize,
+    k: usize,
+    x: Connection,
+)
+    requires { ⌜ TableInCells f (now s) (now kept) (now held) (tableOf (now t)) × (calls ≡ callsIn (now s)) × (length (now s) ≡ checkpointSize (callsIn (now s)) (connectionsIn (now s))) × (k < connectionsIn (now s)) × (heldBy x ≡ connectionRecord (now s) k) × (eqb (x .call .0) 0 ≡ false) ⌝ }
+    ensures { λ _. ⌜ (tableOf (now (t .exit)) ≡ cond (connectionFits (tableOf (now (t .entry))) (heldBy x)) (added (tableOf (now (t .entry))) (heldBy x)) (tableOf (now (t .entry)))) × TableInCells f (now (s .entry)) (now (kept .entry)) (now (held .exit)) (tableOf (now (t .exit))) ⌝ }
 {
-    Glance {
-        unfit,
-        known: false,
-        slot: 0,
+    let slot = find_call(t, f, kept, x);
+    if SLOTS <= slot {
+        return;
     }
+    if 4 <= taken_in(t, call_four(t, slot)) {
+        return;
+    }
+    let c = seek(s, f, held, calls, x.lsp);
+    if c.held {
+        return;
+    }
+    let at = c.at;
+    held[at] = (k + 1) as u16;
+    add_under(t, slot, x.lsp)
 }
 
-// The look at a slot that may hold the connection's call. Whoever asks says why the slot is one of the table's.
-fn look_in_slot(t: &Words, slot: usize, x: Connection) -> Glance
-    requires { ⌜ slot < slots ⌝ }
-    ensures { λ r. ⌜ Glanced (tableOf (now (t .entry))) (heldBy x) (r .unfit) (r .known) (r .slot) ⌝ }
+// Record k, of Call ID 0: its sender is listed and has room, and it is held nowhere.
+fn keep_standalone(
+    t: &mut Words,
+    s: &[u8],
+    f: Factors,
+    kept: &CallCells,
+    held: &mut HeldCells,
+    calls: usize,
+    k: usize,
+    x: Connection,
+)
+    requires { ⌜ TableInCells f (now s) (now kept) (now held) (tableOf (now t)) × (calls ≡ callsIn (now s)) × (length (now s) ≡ checkpointSize (callsIn (now s)) (connectionsIn (now s))) × (k < connectionsIn (now s)) × (heldBy x ≡ connectionRecord (now s) k) × (eqb (x .call .0) 0 ≡ true) ⌝ }
+    ensures { λ _. ⌜ (tableOf (now (t .exit)) ≡ cond (connectionFits (tableOf (now (t .entry))) (heldBy x)) (added (tableOf (now (t .entry))) (heldBy x)) (tableOf (now (t .entry)))) × TableInCells f (now (s .entry)) (now (kept .entry)) (now (held .exit)) (tableOf (now (t .exit))) ⌝ }
 {
-    let used = is_used(t, slot);
-    let own = is_named(t, slot, x.call, x.lsp.endpoint, x.lsp.sender);
-    if !(used & own) {
-        return no_call_seen(false);
+    let l = listing_of(t, x.lsp.sender);
+    if !l.known {
+        return;
     }
-    let f = call_four(t, slot);
-    let full = 4 <= taken_in(t, f);
-    let held = holds(true, t, f, x.lsp);
-    Glance {
-        unfit: full | held,
-        known: !full,
-        slot,
+    let c = seek(s, f, held, calls, x.lsp);
+    if c.held {
+        return;
     }
+    let look = look_standalone(t, x);
+    if 4 <= look.four {
+        return;
+    }
+    let at = c.at;
+    held[at] = (k + 1) as u16;
+    let n = customer_of(t, x.lsp.sender);
+    add_standalone(t, n, x.lsp)
 }
 
-// With Call ID 0, at the customers' places; else at the slot that is noted at the call's mark. Where none is noted, the
-// call is not open.
-fn first_look(t: &Words, calls: &Marks, x: Connection) -> Glance
-    requires { ⌜ Marked callMark (now calls) (entries (tableOf (now t))) ⌝ }
-    ensures { λ r. ⌜ Glanced (tableOf (now (t .entry))) (heldBy x) (r .unfit) (r .known) (r .slot) ⌝ }
+// Record k of a checkpoint, added where it fits. The checkpoint has the size of its counts.
+pub fn keep_connection(
+    t: &mut Words,
+    s: &[u8],
+    f: Factors,
+    kept: &CallCells,
+    held: &mut HeldCells,
+    calls: usize,
+    k: usize,
+    x: Connection,
+)
+    requires { ⌜ TableInCells f (now s) (now kept) (now held) (tableOf (now t)) × (calls ≡ callsIn (now s)) × (length (now s) ≡ checkpointSize (callsIn (now s)) (connectionsIn (now s))) × (k < connectionsIn (now s)) × (heldBy x ≡ connectionRecord (now s) k) ⌝ }
+    ensures { λ _. ⌜ (tableOf (now (t .exit)) ≡ cond (connectionFits (tableOf (now (t .entry))) (heldBy x)) (added (tableOf (now (t .entry))) (heldBy x)) (tableOf (now (t .entry)))) × TableInCells f (now (s .entry)) (now (kept .entry)) (now (held .exit)) (tableOf (now (t .exit))) ⌝ }
 {
     if is_no_call(x.call) {
-        let l = look_standalone(t, x);
-        return no_call_seen(l.held | (4 <= l.four));
-    }
-    let m = call_mark(x.lsp.endpoint, x.lsp.sender, CallWord(x.call.0 as u32));
-    let noted = to_usize(calls[m]);
-    if noted == 0 {
-        return no_call_seen(true);
-    }
-    let slot = noted - 1;
-    if slot < SLOTS {
-        return look_in_slot(t, slot, x);
-    }
-    no_call_seen(false)
-}
-
-// A connection added, where it fits. Its IDs are such as a place may have: a record's are. One that is new by its mark
-// is held nowhere; it and its call are looked for in all slots only where the mark is another's too.
-pub fn keep_connection(t: &mut Words, calls: &Marks, marks: &mut Marks, x: Connection)
-    requires { ⌜ Marking (now calls) (now marks) (tableOf (now t)) × (placeValid (placeFor (lspOf (x .lsp))) ≡ true) ⌝ }
-    ensures { λ _. ⌜ (tableOf (now (t .exit)) ≡ cond (connectionFits (tableOf (now (t .entry))) (heldBy x)) (added (tableOf (now (t .entry))) (heldBy x)) (tableOf (now (t .entry)))) × Marking (now (calls .entry)) (now (marks .exit)) (tableOf (now (t .exit))) ⌝ }
-{
-    let g = first_look(t, calls, x);
-    if g.unfit {
+        keep_standalone(t, s, f, kept, held, calls, k, x);
         return;
     }
-    let m = connection_mark(x);
-    let new = marks[m] == 0;
-    marks[m] = 1;
-    let l = listing_of(t, x.lsp.sender);
-    if g.known & new & l.known {
-        let slot = g.slot;
-        add_under(t, slot, x.lsp);
-        return;
-    }
-    with_connection(t, x)
+    keep_under(t, s, f, kept, held, calls, k, x)
 }

@@ -1,30 +1,31 @@
 -- One record more: a call placed where step 2 keeps it and it fits, a connection added where it fits.
 -- Assumes nothing.
-use Prim.Native.Nat.{ℕ, zero, suc, _+_, _*_, _<_}
+use Prim.Native.Nat.{ℕ, zero, suc, _+_, _*_}
 use native.Mathlib.Numerals.{add-one}
 use native.Mathlib.Omega.{arith}
 use mathlib.Core.Path.{_≡_, refl, ap, _∙_}
 use mathlib.Core.List.{List, [], _∷_}
 use mathlib.Core.Bool.{Bool, true, false, cond, not, _&&_}
-use lib.ListN.{length}
+use lib.ListN.{replicate}
 use borrow.Author.Tests.{not-true}
-use Rattle.numbers.specs.BigEndian.{Bytes}
 use Rattle.lists.specs.Count.{countIf}
 use Rattle.lists.proofs.Tests.{both}
 use Rattle.table.specs.Table.{Table}
+use Rattle.table.specs.Total.{slots}
 use Rattle.table.specs.Word.{isUsed}
 use Rattle.table.specs.Lists.{entries, Held, held}
-use Rattle.table.specs.Rules.{placeValid, holds, slotsWithinTotal, rulesHold}
+use Rattle.table.specs.Rules.{holds, slotsWithinTotal, rulesHold}
 use Rattle.spec_changes.specs.Shape.{Shape}
-use Rattle.spec_changes.specs.Connections.{placeFor, added}
+use Rattle.spec_changes.specs.Connections.{added}
 use Rattle.spec_changes.proofs.Opened.{used-shape}
 use Rattle.spec_changes.proofs.Tables.{added-words, added-form}
 use Rattle.spec_checkpoint.specs.Layout.{callRecord, connectionRecord, heldAtByte}
 use Rattle.spec_checkpoint.specs.Salvage.{placed, keptByLongId, callFits, callKept, withCalls, connectionFits, connectionKept, withConnections}
 use Rattle.spec_checkpoint.proofs.Part.{record-bare, placed-held}
-use Rattle.spec_checkpoint.proofs.Salvaged.{kept-inside, bytes-fit}
-use Rattle.checkpoint_connections.specs.Marks.{callMark, heldMark, Marked, Marking}
-use Rattle.checkpoint_connections.proofs.Noted.{none-marked}
+use Rattle.spec_checkpoint.proofs.Salvaged.{kept-inside}
+use Rattle.checkpoint_chains.specs.declared.Factors.{Factors}
+use Rattle.checkpoint_connections.specs.Cells.{CallsInCells, TableInCells}
+use Rattle.checkpoint_connections.proofs.InCells.{held-none}
 use Rattle.checkpoint_choice.specs.Sized.{Sized}
 
 -- ---- calls
@@ -92,14 +93,9 @@ calls-bare fresh s h e i = no-held (held (withCalls fresh s i)) (calls-held fres
 
 -- ---- connections
 
--- a record's IDs are such as a place may have
-pub record-fits : (s : List ℕ) (n m k : ℕ) → Sized s n m → Bytes s → k < m → placeValid (placeFor (heldAtByte s (4 + 55 * n + 18 * k) .lsp)) ≡ true
-record-fits s n m k z b h = rw (z .calls) (bytes-fit s b k (omega (arith, z .connections)))
-
--- before the first record, calls and connections are marked
-pub marking-starts : (slotMarks marks : List ℕ) (t : Table) → Shape t → rulesHold t ≡ true → Marked callMark slotMarks (entries t) → held t ≡ [] → length marks ≡ 16384
-    → Marking slotMarks marks t
-marking-starts slotMarks marks t s r c e n = record { shape = s; rules = r; calls = c; held = rw e (none-marked heldMark marks n) }
+-- before the first record, the calls stand in cells, and there is no connection
+pub cells-start : (f : Factors) (s cells : List ℕ) (t : Table) → Shape t → rulesHold t ≡ true → CallsInCells f (entries t) cells slots → held t ≡ [] → TableInCells f s cells (replicate 3072 0) t
+cells-start f s cells t h r c e = record { shape = h; rules = r; calls = c; held = rw e (held-none f s) }
 
 pub connections-turn : (start : Table) (s : List ℕ) (n m k : ℕ) (t u : Table) (x : Held) → Sized s n m → t ≡ withConnections start s k
     → x ≡ heldAtByte s (4 + 55 * n + 18 * k) → u ≡ cond (connectionFits t x) (added t x) t → u ≡ withConnections start s (k + 1)

@@ -11,48 +11,51 @@ ghost use Rattle.table.specs.Words.{tableOf};
 ghost use Rattle.spec_changes.specs.Shape.{Shape};
 ghost use Rattle.spec_checkpoint.specs.Salvage.{withCalls, withConnections};
 ghost use Rattle.checkpoint_choice.specs.Sized.{Sized};
+use checkpoint_chains::Factors;
 use checkpoint_choice::choosing::is_best;
 use checkpoint_choice::choosing::long_chains;
 use checkpoint_choice::choosing::sound_flags;
 use checkpoint_choice::naming::named_counts;
+use checkpoint_connections::calls::CallCells;
+use checkpoint_connections::calls::note_calls;
+use checkpoint_connections::connections::HeldCells;
 use checkpoint_connections::keep_connection;
-use checkpoint_connections::marks::Marks;
-use checkpoint_connections::marks::mark_calls;
 use checkpoint_records::read::connection_record;
 use checkpoint_salvage::placing::with_call;
 use table::layout::Words;
 
 // Into a fresh table, which keeps the rules and has no call.
-pub fn with_calls(t: &mut Words, s: &[u8], calls: usize, connections: usize)
+pub fn with_calls(t: &mut Words, s: &[u8], f: Factors, calls: usize, connections: usize)
     requires { ⌜ Sized (now s) calls connections × (connections < 65536) × (rulesHold (tableOf (now t)) ≡ true) × (tableOf (now t) .occupied ≡ replicate 4 0) ⌝ }
     ensures { λ _. ⌜ tableOf (now (t .exit)) ≡ withCalls (tableOf (now (t .entry))) (now (s .entry)) calls ⌝ }
 {
     let sound = sound_flags(t, s, calls);
     let mut links: [u16; 4096] = [0; 4096];
-    let named = named_counts(s, &mut links, calls, connections);
+    let named = named_counts(s, f, &mut links, calls, connections);
     let mut heads: [u16; 2048] = [0; 2048];
-    long_chains(s, &mut heads, &mut links, calls);
+    long_chains(s, f, &sound, &mut heads, &mut links, calls);
     let mut i: usize = 0;
     while i < calls {
-        let best = is_best(s, &heads, &links, &sound, &named, calls, i);
+        let best = is_best(s, f, &heads, &links, &sound, &named, calls, i);
         with_call(t, best, s, i);
         i += 1;
     }
 }
 
-// Into a table that keeps the rules and has no connection: calls and connections are marked from there on.
-pub fn with_connections(t: &mut Words, s: &[u8], calls: usize, connections: usize)
+// Into a table that keeps the rules and has no connection: its calls are put into cells first, and each connection that
+// is added.
+pub fn with_connections(t: &mut Words, s: &[u8], f: Factors, calls: usize, connections: usize)
     requires { ⌜ Sized (now s) calls connections × Shape (tableOf (now t)) × (rulesHold (tableOf (now t)) ≡ true) × (held (tableOf (now t)) ≡ []) ⌝ }
     ensures { λ _. ⌜ tableOf (now (t .exit)) ≡ withConnections (tableOf (now (t .entry))) (now (s .entry)) connections ⌝ }
 {
-    let mut slots: Marks = [0; 16384];
-    mark_calls(t, &mut slots);
-    let mut marks: Marks = [0; 16384];
+    let mut kept: CallCells = [0; 2304];
+    note_calls(t, f, &mut kept);
+    let mut held: HeldCells = [0; 3072];
     let base = 4 + 55 * calls;
     let mut k: usize = 0;
     while k < connections {
         let x = connection_record(s, base + 18 * k);
-        keep_connection(t, &slots, &mut marks, x);
+        keep_connection(t, s, f, &kept, &mut held, calls, k, x);
         k += 1;
     }
 }

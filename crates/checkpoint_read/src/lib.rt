@@ -15,6 +15,7 @@ ghost use Rattle.checkpoint_choice.specs.Sized.{Sized};
 ghost use Rattle.checkpoint_read.specs.Read.{restoredAs, readInto};
 use crate::filling::with_calls;
 use crate::filling::with_connections;
+use checkpoint_chains::factors_of;
 use count_connections::connections_held;
 use numbers::big_endian::get16;
 use occupancy::open_calls;
@@ -67,8 +68,9 @@ fn read_records(t: &mut Words, s: &[u8], calls: usize, connections: usize) -> Re
     requires { ⌜ Sized (now s) calls connections × (connections < 65536) × (rulesHold (tableOf (now t)) ≡ true) × (tableOf (now t) .occupied ≡ replicate 4 0) × Shape (tableOf (now t)) × (held (tableOf (now t)) ≡ []) ⌝ }
     ensures { λ r. ⌜ restoredAs r (tableOf (now (t .exit))) ≡ readInto (tableOf (now (t .entry))) (now (s .entry)) ⌝ }
 {
-    with_calls(t, s, calls, connections);
-    with_connections(t, s, calls, connections);
+    let f = factors_of(s);
+    with_calls(t, s, f, calls, connections);
+    with_connections(t, s, f, calls, connections);
     Restored {
         answer: 0,
         calls: rest(calls, open_calls(t) as usize),

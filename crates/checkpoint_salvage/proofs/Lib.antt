@@ -1,4 +1,3 @@
 pub mod Placed
 pub mod Stands
 pub mod Records
-pub mod Fitting

@@ -6,7 +6,7 @@ use native.Mathlib.Omega.{arith}
 use mathlib.Core.Path.{_≡_, refl}
 use mathlib.Core.Logic.{_⊎_, inl, inr, _≢_}
 use mathlib.Core.List.{[]}
-use mathlib.Core.Bool.{Bool, true, false, not, _&&_}
+use mathlib.Core.Bool.{Bool, true, false, not, _&&_, and-false}
 use lib.ListN.{length}
 use borrow.Author.Tests.{not-true}
 use Rattle.lists.proofs.Tests.{both}
@@ -40,6 +40,15 @@ standsBeside t c =
     && isListed (roster t) (c .sender)
     && not (shareUsedUp (totalOf t) (roster t) (entries t) (c .sender))
     && (not (longInUse (entries t) (idsOf c)) && not (shortInUse (entries t) (idsOf c)))
+
+-- where its short ID is in use it does not
+pub short-stands : (t : Table) (c : Call) → shortInUse (entries t) (idsOf c) ≡ true → standsBeside t c ≡ false
+short-stands t c h =
+    rw (
+      h,
+      and-false (not (longInUse (entries t) (idsOf c))),
+      and-false (isTidy c && isListed (roster t) (c .sender) && not (shareUsedUp (totalOf t) (roster t) (entries t) (c .sender))),
+    )
 
 -- the share is not used up where a call may be opened
 share-left : (t : Table) (c : Call) → MayOpen (totalOf t) (roster t) (entries t) (idsOf c) → shareUsedUp (totalOf t) (roster t) (entries t) (c .sender) ≡ false

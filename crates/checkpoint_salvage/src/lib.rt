@@ -1,3 +1,2 @@
-// One record of a checkpoint (request A13), a call's or a connection's: whether it fits, and the table with it.
-pub mod adding;
+// One call record of a checkpoint (request A13): whether it fits, and the table with it.
 pub mod placing;

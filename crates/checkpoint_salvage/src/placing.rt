@@ -1,16 +1,17 @@
 // One call of a checkpoint: whether it can stand in the table, alone and beside others. The records lie within the
 // checkpoint: its size has been tested.
 ghost use mathlib.Core.Path.{_≡_};
+ghost use mathlib.Core.List.{List};
 ghost use mathlib.Core.Bool.{cond, true, false, _&&_};
-ghost use Prim.Native.Nat.{_+_, _*_, _≤_, _<_};
+ghost use Prim.Native.Nat.{ℕ, _+_, _*_, _≤_, _<_};
 ghost use lib.ListN.{length, replicate};
 ghost use Rattle.objects.specs.Part.{Within};
 ghost use Rattle.table.specs.Total.{slots, totalOf};
 ghost use Rattle.table.specs.Word.{isUsed};
-ghost use Rattle.table.specs.Lists.{idsOf};
+ghost use Rattle.table.specs.Lists.{idsOf, entries};
 ghost use Rattle.table.specs.Rules.{validIds, callFreeClear, rulesHold};
 ghost use Rattle.table.specs.Words.{tableOf};
-ghost use Rattle.spec_calls.specs.CallRules.{idsIn};
+ghost use Rattle.spec_calls.specs.CallRules.{idsIn, shortInUse};
 ghost use Rattle.spec_checkpoint.specs.Layout.{callRecord};
 ghost use Rattle.spec_checkpoint.specs.Salvage.{placed, soundAlone, callFits};
 use checkpoint_records::read::record_slot;
@@ -29,10 +30,13 @@ use objects::fields::MessageId;
 use objects::fields::Part;
 use occupancy::is_used;
 use occupancy::mark_used;
+use occupancy::used_below;
 use table::layout::Words;
 use table::total::total_for;
+use table_words::calls::call_head;
 use table_words::calls::put_slot;
 use table_words::head::form;
+use table_words::ids::is_call;
 
 // Record i's call in the slot that it names, one of the table's.
 fn place(t: &mut Words, s: &[u8], i: usize, slot: usize)
@@ -85,6 +89,23 @@ fn record_request(s: &[u8], i: usize) -> CallRequest
     }
 }
 
+// The pair has the short Call ID in use. This is asked by itself, and first, so that names are compared only where it is
+// not: a checkpoint may have thousands of calls that fail here.
+fn short_in_use(t: &Words, endpoint: u32, sender: u32, id: CallId) -> bool
+    ensures { λ b. ⌜ ((long : List ℕ) → b ≡ shortInUse (entries (tableOf (now (t .entry)))) (record { endpoint = endpoint; sender = sender; short = id .0; long = long })) ⌝ }
+{
+    let n = used_below(t);
+    let mut found = false;
+    let mut i: usize = 0;
+    while i < n {
+        let c = call_head(t, i);
+        let pair = (endpoint == c.endpoint) & (sender == c.sender);
+        found = found | (is_used(t, i) & (pair & is_call(id, c.id)));
+        i += 1;
+    }
+    found
+}
+
 // Whether record i's call could stand in a free slot beside the calls in the table: its numbers are those of a call, its
 // sender is listed and has room, and neither ID is in use in its pair. The table keeps its rules, so that no other is
 // asked again.
@@ -98,6 +119,9 @@ fn stands(t: &Words, s: &[u8], i: usize) -> bool
     let q = record_request(s, i);
     let m = listing_of(t, q.sender);
     if !m.known {
+        return false;
+    }
+    if short_in_use(t, q.endpoint, q.sender, q.call) {
         return false;
     }
     if share_used_up(t, q.sender) {

@@ -27,13 +27,13 @@ use Rattle.rule_keys.specs.Keys.{shortKey, longKey, lspKey, heldKeys, ca
 -- ---- the same key
 
 -- of a call's IDs; the table holds a long ID with zeros behind it
-abbrev pub shortOf : Ids → ℕ
+abbrev shortOf : Ids → ℕ
 shortOf c = shortKey (c .endpoint) (c .sender) (c .short)
 
 abbrev longOf : Ids → ℕ
 longOf c = longKey (c .endpoint) (c .sender) (padded (c .long))
 
-pub short-same : (c d : Ids) → sameShort c d ≡ true → shortOf c ≡ shortOf d
+short-same : (c d : Ids) → sameShort c d ≡ true → shortOf c ≡ shortOf d
 unfolding sameShort
 short-same c d h =
     let k = both (samePair c d) (eqb (c .short) (d .short)) h in
@@ -47,7 +47,7 @@ long-same c d h =
     let m = both (eqb (c .endpoint) (d .endpoint)) (eqb (c .sender) (d .sender)) (k .0) in
     rw (eqb-true (c .endpoint) (d .endpoint) (m .0), eqb-true (c .sender) (d .sender) (m .1), same-bytes (c .long) (d .long) (k .1))
 
-pub lsp-same : (x y : Held) → sameConnection x y ≡ true → lspKey (x .lsp) ≡ lspKey (y .lsp)
+lsp-same : (x y : Held) → sameConnection x y ≡ true → lspKey (x .lsp) ≡ lspKey (y .lsp)
 unfolding sameLsp
 lsp-same x y h =
     let k = both _ (eqb (x .lsp .lspId) (y .lsp .lspId)) h in

@@ -7,7 +7,6 @@ ghost use Rattle.table.specs.Words.{tableOf};
 ghost use Rattle.rule_keys.specs.Keys.{pairSum, wordProduct, nameSum, shortKey, longKey, lspKey};
 use table::layout::Words;
 use table_words::calls::CallHead;
-use table_words::calls::CallWord;
 use table_words::fours::PlaceWords;
 use table_words::names::name_word;
 
@@ -17,10 +16,10 @@ fn pair_sum(endpoint: u32, sender: u32) -> u64
     (endpoint as u64) * 199728483 + (sender as u64) * 179213453
 }
 
-pub fn short_key(endpoint: u32, sender: u32, id: CallWord) -> u32
-    ensures { λ r. ⌜ r ≡ shortKey endpoint sender (id .0) ⌝ }
+pub fn short_key(c: CallHead) -> u32
+    ensures { λ r. ⌜ r ≡ shortKey (c .endpoint) (c .sender) (c .id .0) ⌝ }
 {
-    ((pair_sum(endpoint, sender) + (id.0 as u64) * 203459603) % 4294967296) as u32
+    ((pair_sum(c.endpoint, c.sender) + (c.id.0 as u64) * 203459603) % 4294967296) as u32
 }
 
 // Here and below, whoever asks says why the slot is one of the table's.

@@ -36,7 +36,7 @@ use table_words::fours::place_words;
 use table_words::head::listed;
 
 mod chains;
-pub mod keys;
+mod keys;
 
 // How many steps back through chains are taken at most.
 const STEPS: usize = 2048;
@@ -95,13 +95,7 @@ fn note_call(
     ensures { λ r. ⌜ Listed (now (heads .exit)) (now (links .exit)) (now (keys .exit)) r × (take (r .count) (now (keys .exit)) ≡ take (at .count) (now (keys .entry)) ++ callKeys (callAt (tableOf (now (t .entry))) i)) × (r .count ≤ at .count + 6) ⌝ }
 {
     let c = call_head(t, i);
-    let one = note_key(
-        heads,
-        links,
-        keys,
-        at,
-        short_key(c.endpoint, c.sender, c.id),
-    );
+    let one = note_key(heads, links, keys, at, short_key(c));
     let two = note_key(heads, links, keys, one, long_key(c, t, i));
     note_four(heads, links, keys, two, t, call_four(t, i))
 }

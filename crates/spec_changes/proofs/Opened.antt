@@ -111,6 +111,11 @@ none-under c = refl
 
 -- ---- the table
 
+-- the roster's form stays
+pub opened-form : (t : Table) (c : Ids) → opened t c .form ≡ t .form
+unfolding opened
+opened-form t c = refl
+
 module _ (t : Table) (c : Ids) (s : Shape t) (free : lowestFree (t .occupied) < totalOf t) where
   abbrev slot : ℕ
   slot = lowestFree (t .occupied)

@@ -14,7 +14,7 @@ use Rattle.table.specs.Zeros.{noCall}
 use Rattle.table.specs.Lists.{Ids, Lsp, Held, heldAt, standaloneAt}
 use Rattle.table.specs.Rules.{isLsp}
 use Rattle.table.specs.Stores.{withSlot}
-use Rattle.spec_changes.specs.Calls.{opened, isCall, slotOf, closed}
+use Rattle.spec_changes.specs.Calls.{isCall, slotOf, closed}
 use Rattle.spec_changes.specs.Connections.{isCallOf, addedUnder, removedUnder, addedStandalone, removedStandalone, customerOf, added, removed}
 
 pub closed-is : (t : Table) (c : Ids) (slot : ℕ) → slot ≡ slotOf t (isCall c) → withSlot t (withFree (t .occupied) slot) slot noCall ≡ closed t c
@@ -41,11 +41,7 @@ module _ (t : Table) (x : Lsp) where
   unfolding removed
   removed-standalone k h e = rw (h, e)
 
--- ---- the roster's form stays
-
-pub opened-form : (t : Table) (c : Ids) → opened t c .form ≡ t .form
-unfolding opened
-opened-form t c = refl
+-- ---- the roster's form stays: `opened-form` stands beside what else an opening keeps
 
 pub closed-form : (t : Table) (c : Ids) → closed t c .form ≡ t .form
 unfolding closed

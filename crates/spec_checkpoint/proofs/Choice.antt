@@ -13,6 +13,7 @@ use borrow.Author.Tests.{eqb-true, eqb-false, ltb-true, ltb-false, le-ltb, not-t
 use Rattle.lists.proofs.Tests.{both}
 use Rattle.lists.proofs.Below.{every-at, every-within}
 use Rattle.table.specs.Table.{Table}
+use Rattle.table.specs.Total.{totalOf}
 use Rattle.table.specs.Lists.{idsOf}
 use Rattle.spec_changes.proofs.Alike.{long-self, long-alike}
 use Rattle.spec_checkpoint.specs.Layout.{callsIn, callRecord}
@@ -141,6 +142,10 @@ kept-sound : (fresh : Table) (s : List ℕ) (i : ℕ) → keptByLongId fresh s i
 unfolding keptByLongId
 kept-sound fresh s i k = both (soundAlone fresh (callRecord s i)) _ k .0
 
+sound-within : (fresh : Table) (s : List ℕ) (i : ℕ) → soundAlone fresh (callRecord s i) ≡ true → callRecord s i .slot < totalOf fresh
+unfolding soundAlone
+sound-within fresh s i h = ltb-true (callRecord s i .slot) (totalOf fresh) (both _ _ h .0)
+
 -- two that are kept are one
 kept-one : (fresh : Table) (s : List ℕ) (i j : ℕ) → i < callsIn s → j < callsIn s → keptByLongId fresh s i ≡ true → keptByLongId fresh s j ≡ true → sameCall s j i ≡ true → j ≡ i
 kept-one fresh s i j h l a b same =
@@ -157,6 +162,7 @@ one-kept fresh s i h a =
       kept = b .at;
       inside = b .inside;
       passes = k;
+      within = sound-within fresh s (b .at) (b .sound);
       same = b .same;
       only = λ j l q v. kept-one fresh s (b .at) j (b .inside) l k q (same-both s j (b .at) i v (b .same));
     }

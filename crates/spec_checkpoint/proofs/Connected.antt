@@ -23,7 +23,7 @@ use Rattle.spec_changes.proofs.CallMissing.{no-call-missing}
 use Rattle.spec_changes.proofs.Added.{MayAdd, added-roster, added-entries, added-held, added-shape, added-kept}
 use Rattle.spec_checkpoint.specs.Layout.{connectionsIn, connectionRecord}
 use Rattle.spec_checkpoint.specs.Salvage.{connectionFits, withConnections}
-use Rattle.spec_checkpoint.proofs.Salvaged.{RecordsFit, may-add}
+use Rattle.spec_checkpoint.proofs.Salvaged.{RecordsFit, may-add, next-added}
 use Rattle.spec_checkpoint.proofs.AllKept.{count-prefix}
 use Rattle.spec_checkpoint.proofs.Fours.{fours-hold, senderUnlisted, senders-hold, placeUnfit, places-fit}
 
@@ -89,8 +89,7 @@ module _ (t over : Table) (s : List ℕ) (k : Kept t) (all : (p : Held → Bool)
     may = may-add u x (records-fit t s k all n h) fits
 
     pub goes-on : withConnections over s (suc n) ≡ added (withConnections over s n) (connectionRecord s n)
-    unfolding withConnections
-    goes-on = rw fits
+    goes-on = next-added over s n fits
 
     step : Joined over s (suc n)
     step = record {

@@ -28,7 +28,7 @@ use Rattle.spec_changes.proofs.Told.{roster-kept}
 -- ---- rows of four, of which a test picks at most one
 
 -- a four has at most four that pass, and none where none of its connections does
-at-most : (q : Held → Bool) (f : Four) (b : Bool) → (b ≡ false → (j : ℕ) → q (connectionAt f j) ≡ false) → countIf q (heldIn f) ≤ 4 * bit b
+pub at-most : (q : Held → Bool) (f : Four) (b : Bool) → (b ≡ false → (j : ℕ) → q (connectionAt f j) ≡ false) → countIf q (heldIn f) ≤ 4 * bit b
 at-most q f true h =
     omega (arith, count-below (heldPlace f) q 0, count-below (heldPlace f) q 1, count-below (heldPlace f) q 2, count-below (heldPlace f) q 3, count-none (heldPlace f) q, one 0, one 1, one 2, one 3)
   where
@@ -92,7 +92,7 @@ module _ (t : Table) (k : Kept t) (x : Held) where
       )
 
   -- a call's ID is not 0
-  under-none : x .call ≡ 0 → countIf (sameFour x) (below (heldAt t) slots) ≡ 0
+  pub under-none : x .call ≡ 0 → countIf (sameFour x) (below (heldAt t) slots) ≡ 0
   under-none e = none-under (sameFour x) t (λ i l u j _ _. rw (e, ne-eqb 0 (callAt t i .id) (omega (arith, ids-named (callAt t i) (k .names i l u) .some))))
 
   -- with Call ID 0: those of one customer where it is 0, none where it is not
@@ -129,7 +129,7 @@ senderUnlisted t x = not (isListed (roster t) (x .lsp .sender))
 
 module _ (t : Table) (k : Kept t) where
   -- under a call it is the call's
-  call-sender : (i : ℕ) → i < slots → isUsed (t .occupied) i ≡ true → not (isListed (roster t) (callAt t i .sender)) ≡ false
+  pub call-sender : (i : ℕ) → i < slots → isUsed (t .occupied) i ≡ true → not (isListed (roster t) (callAt t i .sender)) ≡ false
   call-sender i l u =
       let e : Entry = record { slot = i; ids = idsOf (callAt t i) } in
       let here : countIf (unlisted (roster t)) (openAt t i) ≡ bit (unlisted (roster t) e) = count-element (unlisted (roster t)) (isUsed (t .occupied) i) e ∙ rw u in

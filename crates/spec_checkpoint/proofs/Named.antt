@@ -2,23 +2,18 @@
 -- Assumes nothing.
 use mathlib.Core.Path.{refl}
 use mathlib.Core.Bool.{not}
-use borrow.Author.Tests.{eq-eqb, le-ltb}
+use borrow.Author.Tests.{eq-eqb}
 use Rattle.lists.proofs.Tests.{both}
-use Rattle.table.specs.Total.{totalOf}
 use Rattle.table.specs.Word.{isUsed}
 use Rattle.table.specs.Roster.{rosterNumber, rosterAnswer}
 use Rattle.spec_changes.proofs.Told.{rules-kept}
-use Rattle.spec_checkpoint.specs.Salvage.{placed, soundAlone, namedBy, callFits}
+use Rattle.spec_checkpoint.specs.Salvage.{placed, namedBy, callFits}
 use Rattle.spec_checkpoint.specs.Restored.{restored}
-use Rattle.spec_checkpoint.specs.Claims.{SlotNotLookedAt, OutsideDropped, TakenSlotDropped, ShareKept, SizeFirst}
+use Rattle.spec_checkpoint.specs.Claims.{SlotNotLookedAt, TakenSlotDropped, ShareKept, SizeFirst}
 
 pub slot-not-looked-at : SlotNotLookedAt
 unfolding namedBy
 slot-not-looked-at s c i j = refl
-
-pub outside-dropped : OutsideDropped
-unfolding soundAlone
-outside-dropped fresh r h = rw (le-ltb (r .slot) (totalOf fresh) h)
 
 pub taken-slot-dropped : TakenSlotDropped
 unfolding callFits

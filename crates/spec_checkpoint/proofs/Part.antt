@@ -28,6 +28,10 @@ pub record-bare : (s : List ℕ) (i : ℕ) → heldIn (callFour (callRecord s i 
 unfolding below elementIf
 record-bare s i = refl
 
+-- the roster's form stays, and with it the total
+pub placed-form : (t : Table) (r : Slotted) → placed t r .form ≡ t .form
+placed-form t r = refl
+
 module _ (t : Table) (r : Slotted) (long : slots ≤ length (t .calls)) (four : length (t .occupied) ≡ 4) (inside : r .slot < slots) (was : isUsed (t .occupied) (r .slot) ≡ false) (none : heldIn (callFour (r .call)) ≡ []) where
   abbrev words : List ℕ
   words = withUsed (t .occupied) (r .slot)

@@ -1,26 +1,31 @@
 -- What reading a checkpoint promises (02, A13): the rules hold whatever bytes are read, plain reading refuses exactly
 -- what salvage would drop, and demand 3 goes on from the table that is read.
 -- Assumes nothing.
-use Prim.Native.Nat.{ℕ}
-use mathlib.Core.Path.{_≡_, refl, ap}
+use Prim.Native.Nat.{ℕ, _/_, _≤_, _<_}
+use native.Mathlib.Omega.{arith}
+use mathlib.Core.Path.{_≡_, refl, sym, ap, _∙_}
 use mathlib.Core.List.{List, [], _∷_}
-use mathlib.Core.Bool.{Bool, true, false, cond, not, _||_}
-use lib.Dec.{eqb}
-use borrow.Author.Tests.{eq-eqb, eqb-true}
+use mathlib.Core.Bool.{Bool, true, false, cond, not, _||_, true≢false}
+use lib.Dec.{ltb, eqb}
+use lib.ListN.{length, List·getD-eq-default}
+use borrow.Author.Tests.{eq-eqb, eqb-true, ltb-true, ltb-false}
 use Rattle.numbers.specs.BigEndian.{Bytes}
 use Rattle.numbers.specs.Search.{isIn}
 use Rattle.table.specs.declared.answer.RosterAnswer.{RosterAnswer}
 use Rattle.table.specs.declared.answer.RosterAnswer.the-variants.{Accepted, Short, BadForm, Length, SpareBits, Share, Repeated, Guarantees}
 use Rattle.table.specs.Total.{totalFor, totalOf}
+use Rattle.table.specs.Word.{bits, isUsed, FourWords}
 use Rattle.table.specs.Lists.{roster, entries}
 use Rattle.table.specs.Rules.{rulesHold}
 use Rattle.table.specs.Roster.{totalIn, rosterNumber, rosterAnswer, freshTable, tableFor, formIn}
+use Rattle.table.proofs.Slots.{none-used}
+use Rattle.table.proofs.Within.{rules-within, used-within}
 use Rattle.table.proofs.Fresh.{fresh-holds, empty-holds, fresh-roster}
 use Rattle.spec_changes.proofs.Fresh.{fresh-shape}
 use Rattle.spec_promises.specs.Promises.{Agrees}
 use Rattle.spec_promises.proofs.Demand3.{accepted, demand3-from, agrees-from, connections-from}
 use Rattle.spec_checkpoint.specs.Restored.{Restored, badSize, unrestored, fromCheckpoint, dropsNone, restored}
-use Rattle.spec_checkpoint.specs.Claims.{RestoredHolds, SalvageAnswers, PlainSame, Plain72, Demand3Restored, AgreesRestored, ConnectionsRestored}
+use Rattle.spec_checkpoint.specs.Claims.{RestoredHolds, SalvageAnswers, PlainSame, Plain72, OutsideDropped, Demand3Restored, AgreesRestored, ConnectionsRestored}
 use Rattle.spec_checkpoint.proofs.Closed.{closed-fresh}
 use Rattle.spec_checkpoint.proofs.Salvaged.{Sound, RecordsFit, bytes-fit, salvaged-sound}
 
@@ -103,6 +108,28 @@ plain-72 r s = by (rosterAnswer r) (badSize s) (not (eqb (formIn s) 1)) (dropsNo
     by Repeated b c d q = refl
     by Guarantees b c d q = refl
 
+-- ---- within the total
+
+-- the total is that of the roster
+restored-total : (salvage : Bool) (r s : List ℕ) → Bytes r → Bytes s → rosterNumber (rosterAnswer r) ≡ 0 → totalOf (restored salvage r s .table) ≡ totalIn r
+restored-total salvage r s b d e = ap totalFor (restored-sound salvage r s b d e .form)
+
+-- four words have no bit for a slot behind them
+used-has-bit : (words : List ℕ) → FourWords words → (slot : ℕ) → isUsed words slot ≡ true → slot < bits
+used-has-bit words f slot u = by (ltb slot bits) refl
+  where
+    by : (b : Bool) → ltb slot bits ≡ b → slot < bits
+    by true q = ltb-true slot bits q
+    by false q =
+        let l : length words ≤ slot / 64 = omega (arith, f .four, ltb-false slot bits q) in
+        absurd (true≢false (sym u ∙ none-used words slot (List·getD-eq-default words 0 {n = slot / 64} l)))
+
+pub outside-dropped : OutsideDropped
+outside-dropped salvage r s b d e slot u =
+    let t = restored salvage r s .table in
+    let i = restored-sound salvage r s b d e in
+    rw (← (restored-total salvage r s b d e)) (used-within t (rules-within t (i .rules)) slot (used-has-bit (t .occupied) (i .shape .words) slot u) u)
+
 -- ---- demand 3 from a table that was read
 
 restored-agrees : (salvage : Bool) (r s : List ℕ) → Bytes r → Bytes s → rosterNumber (rosterAnswer r) ≡ 0
@@ -110,10 +137,6 @@ restored-agrees : (salvage : Bool) (r s : List ℕ) → Bytes r → Bytes s → 
 restored-agrees salvage r s b d e =
     let i = restored-sound salvage r s b d e in
     record { shape = i .shape; rules = i .rules; calls = λ p. refl }
-
--- the total is that of the roster
-restored-total : (salvage : Bool) (r s : List ℕ) → Bytes r → Bytes s → rosterNumber (rosterAnswer r) ≡ 0 → totalOf (restored salvage r s .table) ≡ totalIn r
-restored-total salvage r s b d e = ap totalFor (restored-sound salvage r s b d e .form)
 
 pub demand3-restored : Demand3Restored
 demand3-restored salvage r s b d e xs =

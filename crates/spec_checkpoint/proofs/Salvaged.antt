@@ -34,6 +34,7 @@ use Rattle.spec_checkpoint.specs.Layout.{Slotted, callsIn, connectionsIn
 use Rattle.spec_checkpoint.specs.Places.{ClosedUp}
 use Rattle.spec_checkpoint.specs.Salvage.{placed, soundAlone, keptByLongId, callFits, withCalls, connectionFits, withConnections, salvaged}
 use Rattle.spec_checkpoint.proofs.Closed.{closed-placed, closed-added}
+use Rattle.spec_checkpoint.proofs.Part.{placed-form}
 
 -- what stays true of the table from one record to the next: r is the roster that the copy is read under
 pub record Sound (r : List ℕ) (t : Table) : Type 0 where
@@ -61,7 +62,7 @@ call-sound r t c h p f i = record {
   shape = used-shape t (c .slot) (c .call) (i .shape) h (ap length p);
   rules = both (not (isUsed (t .occupied) (c .slot))) _ f .1;
   roster = i .roster;
-  form = i .form;
+  form = placed-form t c ∙ i .form;
   closed = closed-placed t c (i .shape) h p (i .closed);
 }
 
@@ -114,6 +115,12 @@ pub bytes-fit : (s : List ℕ) → Bytes s → RecordsFit s
 bytes-fit s b n h =
     let at = 4 + 55 * callsIn s + 18 * n in
     valid-place (connectionRecord s n .lsp) (be16-bound s (at + 6) b) (be16-bound s (at + 16) b)
+
+-- a connection that is kept is added as a Path adds it, into the lowest free place
+pub next-added : (t : Table) (s : List ℕ) (n : ℕ) → connectionFits (withConnections t s n) (connectionRecord s n) ≡ true
+    → withConnections t s (suc n) ≡ added (withConnections t s n) (connectionRecord s n)
+unfolding withConnections
+next-added t s n h = rw h
 
 pub connections-sound : (r : List ℕ) (t : Table) (s : List ℕ) → RecordsFit s → Sound r t → (n : ℕ) → n ≤ connectionsIn s → Sound r (withConnections t s n)
 unfolding withConnections

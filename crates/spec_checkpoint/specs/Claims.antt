@@ -126,11 +126,13 @@ MostNamed =
     (fresh : Table) (s : List ℕ) (i j : ℕ) → keptByLongId fresh s i ≡ true → j < callsIn s → soundAlone fresh (callRecord s j) ≡ true → sameCall s j i ≡ true
     → (namedBy s (callRecord s j) ≤ namedBy s (callRecord s i)) × (namedBy s (callRecord s j) ≡ namedBy s (callRecord s i) → i ≤ j)
 
--- of the records of one call, one and no other is kept by that. Not so of a node that drops them all, or keeps two.
+-- of the records of one call, one and no other is kept by that, and its slot is below the total. Not so of a node that
+-- drops them all, keeps two, or prefers one that is dropped later since its slot is outside.
 pub record OneOf (fresh : Table) (s : List ℕ) (i : ℕ) : Type 0 where
   pub kept : ℕ
   pub inside : kept < callsIn s
   pub passes : keptByLongId fresh s kept ≡ true
+  pub within : callRecord s kept .slot < totalOf fresh
   pub same : sameCall s kept i ≡ true
   pub only : (j : ℕ) → j < callsIn s → keptByLongId fresh s j ≡ true → sameCall s j i ≡ true → j ≡ kept
 
@@ -141,10 +143,13 @@ OneKept = (fresh : Table) (s : List ℕ) (i : ℕ) → i < callsIn s → soundAl
 abbrev pub SlotNotLookedAt : Type 0
 SlotNotLookedAt = (s : List ℕ) (c : Call) (i j : ℕ) → namedBy s (record { slot = i; call = c }) ≡ namedBy s (record { slot = j; call = c })
 
--- "drops calls that .. name a slot outside the total", the total of the roster that the copy is read under. Not so of a node
--- that puts a call into slot 64 under a roster of form 1, since the table has that slot.
+-- "drops calls that .. name a slot outside the total", the total of the roster that the copy is read under: every slot that
+-- the table restored uses is below it, in plain and with salvage. Not so of a node that puts a call into slot 64 under a
+-- roster of form 1, since the table has that slot, or makes room for it by taking the roster for one of form 2.
 abbrev pub OutsideDropped : Type 0
-OutsideDropped = (fresh : Table) (r : Slotted) → totalOf fresh ≤ r .slot → soundAlone fresh r ≡ false
+OutsideDropped =
+    (salvage : Bool) (r s : List ℕ) → Bytes r → Bytes s → rosterNumber (rosterAnswer r) ≡ 0 → (slot : ℕ)
+    → isUsed (restored salvage r s .table .occupied) slot ≡ true → slot < totalIn r
 
 -- "drops each record that .. takes a taken slot". Not so of a node that moves it to a free one, or puts it there all the
 -- same.

@@ -19,7 +19,8 @@ use Rattle.table.specs.Lists.{roster, Ids, Entry, entries, Held, held}
 use Rattle.table.specs.Rules.{samePair, sameShort, sameLong}
 use Rattle.spec_changes.specs.Calls.{opened, isCall, closed, identifierTaken}
 use Rattle.spec_changes.specs.Connections.{added, removed, isUnder}
-use Rattle.spec_changes.proofs.Tables.{opened-form, closed-form, added-form, removed-form}
+use Rattle.spec_changes.proofs.Opened.{opened-form}
+use Rattle.spec_changes.proofs.Tables.{closed-form, added-form, removed-form}
 use Rattle.answers.specs.declared.answer.Answer.{Answer}
 use Rattle.answers.specs.declared.answer.Answer.the-variants.{TableBroken, BufferTooSmall, Malformed, SenderNotListed, UnderOtherCall, NotHeld, CallOpened, CallAlreadyOpen, CallClosed, ConnectionAdded, ConnectionAlreadyHeld, ConnectionRemoved, CallIdContention, DuplicateCall, ConnectionsStillExist, UnknownCall, NoShare, PathUnknownCall, NoPlaceLeft}
 use Rattle.answers.specs.Answers.{answerNumber, is, sendsNotify}

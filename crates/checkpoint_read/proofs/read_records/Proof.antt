@@ -9,13 +9,16 @@ use borrow.Author.Needs.{needs}
 use Rattle.checkpoint_read.proofs.read_records.Statement.{statement}
 use Rattle.checkpoint_read.proofs.read_records.Tie as tie
 
+factors-of-requires : tie.Need-factors-of-requires
+factors-of-requires c κs = search needs
+
 with-calls-requires : tie.Need-with-calls-requires
 with-calls-requires c κs = search needs
 
 with-connections-requires : tie.Need-with-connections-requires
 with-connections-requires c κs =
     let v = c .before in
-    let z = v .before .before .before in
+    let z = v .before .before .before .before in
     let s = z .args .s .now in
     let fresh = tableOf (z .args .t .now) in
     let e = v .with-calls .ensures in
@@ -25,7 +28,7 @@ open-calls-requires : tie.Need-open-calls-requires
 open-calls-requires c κs =
     let w = c .before in
     let v = w .before .before in
-    let z = v .before .before .before in
+    let z = v .before .before .before .before in
     let s = z .args .s .now in
     let fresh = tableOf (z .args .t .now) in
     ap (λ t. holds slotsWithinTotal t) (w .with-connections .ensures)
@@ -48,7 +51,7 @@ returns c =
     let o = c .before .before .before .before in
     let w = o .before .before in
     let v = w .before .before in
-    let z = v .before .before .before in
+    let z = v .before .before .before .before in
     let a = z .args in
     read-is (tableOf (a .t .now)) _ _ (a .s .now) (a .calls) (a .connections) _ _ (z .pre .0) (v .with-calls .ensures) (w .with-connections .ensures)
     (rw (o .open-calls .ensures) at (c .before .before .before .rest .ensures)) (rw (c .before .connections-held .ensures .0) at (c .rest2 .ensures))
@@ -57,6 +60,7 @@ pub read-records-spec : {M : Type 1} → statement M
 read-records-spec =
     tie.close
     (tie.spec
+    factors-of-requires
     with-calls-requires
     with-connections-requires
     open-calls-requires

@@ -1,23 +1,25 @@
--- `choosing::long_chains` meets its contract: after `k` turns the last `k` records stand in their chains.
-use Prim.Native.Nat.{ℕ, _≤_, _-_}
+-- `choosing::long_chains` meets its contract: after `k` turns those of the last `k` records that are sound stand in their
+-- chains.
+use Prim.Native.Nat.{ℕ, _+_, _≤_, _-_}
 use native.Mathlib.Omega.{arith}
 use mathlib.Core.Path.{_≡_, ap, _∙_}
-use mathlib.Core.Bool.{true}
-use lib.ListN.{length, getD, length-replicate}
+use mathlib.Core.Logic.{⊎-elim}
+use lib.ListN.{length, getD, length-set, length-replicate}
 use Rattle.lists.specs.Chain.{InChains}
 use Rattle.lists.proofs.Chain.{chain-start}
 use Rattle.table_words.proofs.NameBytes.{zero-get}
 use Rattle.checkpoint_choice.specs.LongChain.{chainAt}
-use Rattle.checkpoint_choice.proofs.LongWalk.{chained-turn}
+use Rattle.checkpoint_choice.proofs.LongWalk.{soundAt, chained-sound, chained-unsound}
 use borrow.Author.Needs.{needs}
 use Rattle.checkpoint_choice.proofs.choosing.long_chains.Statement.{statement}
 use Rattle.checkpoint_choice.proofs.choosing.long_chains.Tie as tie
 
 abbrev Inv-loop : tie.InvT-loop
-Inv-loop s heads₀ links₀ calls k₀ heads links k = (k ≤ calls) × (length heads ≡ 2048) × (length links ≡ 4096) × InChains (λ _. true) (chainAt s calls) heads links k
+Inv-loop s f sound heads₀ links₀ calls k₀ heads links k =
+    (k ≤ calls) × (length heads ≡ 2048) × (length links ≡ 4096) × InChains (soundAt sound calls) (chainAt f s calls) heads links k
 
 abbrev μ-loop : tie.MeasureT-loop
-μ-loop s heads₀ links₀ calls k₀ heads links k = calls - k
+μ-loop s f sound heads₀ links₀ calls k₀ heads links k = calls - k
 
 sized-requires : tie.Need-sized-requires Inv-loop μ-loop
 sized-requires c κs = search needs
@@ -28,11 +30,14 @@ loop-holds c =
     let zeros = z .pre .2 in
     (omega arith, ap length zeros ∙ length-replicate {A = ℕ} 2048 0, c .sized .ensures, chain-start _ _ _ _ (λ m. ap (λ l. getD l m 0) zeros ∙ zero-get 2048 m))
 
-sub-long-chain : tie.Need-sub-long-chain Inv-loop μ-loop
-sub-long-chain c = search needs
+sub-i : tie.Need-sub-i Inv-loop μ-loop
+sub-i c = search needs
 
-sub-long-chain-2 : tie.Need-sub-long-chain-2 Inv-loop μ-loop
-sub-long-chain-2 c = search needs
+sub-i-2 : tie.Need-sub-i-2 Inv-loop μ-loop
+sub-i-2 c = search needs
+
+element-copy-out-if1 : tie.Need-element-copy-out-if1 Inv-loop μ-loop
+element-copy-out-if1 c = search needs
 
 long-chain-requires : tie.Need-long-chain-requires Inv-loop μ-loop
 long-chain-requires c κs = search needs
@@ -72,8 +77,22 @@ loop-again c =
     let l = c .before .before .before in
     let a = l .before .before .before .before .args in
     let i = l .loop .inv in
-    let m = c .before .long-chain .ensures in
-    (omega arith, search needs, search needs, chained-turn (a .s .now) (l .loop .heads) (l .loop .links) (a .calls) (l .loop .k) _ (i .3) (m .0) (omega arith) (omega arith))
+    ⊎-elim
+    (λ w. (
+      omega arith,
+      ap length (w .3) ∙ length-set (l .loop .heads) (w .1 .result) (l .loop .k + 1) ∙ i .1,
+      ap length (w .4) ∙ length-set (l .loop .links) (l .loop .k) (getD (l .loop .heads) (w .1 .result) 0) ∙ i .2,
+      rw (w .3, w .4)
+          (chained-sound (a .f) (a .s .now) (a .sound .now) (l .loop .heads) (l .loop .links) (a .calls) (l .loop .k) (i .3) _ (w .0 .taken) (w .1 .ensures .0)
+          (omega (arith, i .1, w .1 .ensures .1)) (omega (arith, i .2))),
+    ))
+    (λ w. (
+      omega arith,
+      ap length (w .1) ∙ i .1,
+      ap length (w .2) ∙ i .2,
+      rw (w .1, w .2) (chained-unsound (a .f) (a .s .now) (a .sound .now) (l .loop .heads) (l .loop .links) (a .calls) (l .loop .k) (i .3) (w .0 .left)),
+    ))
+    (c .if1 .came)
 
 returns : tie.Need-returns Inv-loop μ-loop
 returns c =
@@ -88,8 +107,9 @@ long-chains-spec =
     μ-loop
     sized-requires
     loop-holds
-    sub-long-chain
-    sub-long-chain-2
+    sub-i
+    sub-i-2
+    element-copy-out-if1
     long-chain-requires
     mul-links
     element-copy-out-links

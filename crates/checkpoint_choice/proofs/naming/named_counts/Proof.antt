@@ -18,24 +18,24 @@ use Rattle.checkpoint_choice.proofs.naming.named_counts.Statement.{stat
 use Rattle.checkpoint_choice.proofs.naming.named_counts.Tie as tie
 
 abbrev Inv-loop : tie.InvT-loop
-Inv-loop s links₀ calls connections heads₀ counts i₀ links heads i = (i ≤ calls) × Noted s heads links i
+Inv-loop s f links₀ calls connections heads₀ counts i₀ links heads i = (i ≤ calls) × Noted f s heads links i
 
 abbrev μ-loop : tie.MeasureT-loop
-μ-loop s links₀ calls connections heads₀ counts i₀ links heads i = calls - i
+μ-loop s f links₀ calls connections heads₀ counts i₀ links heads i = calls - i
 
 abbrev Inv-loop2 : tie.InvT-loop2
-Inv-loop2 s links calls connections heads counts₀ i base k₀ counts k =
+Inv-loop2 s f links calls connections heads counts₀ i base k₀ counts k =
     (k ≤ connections) × (length counts ≡ 4096) × ((j : ℕ) → getD counts j 0 ≤ k) × Tallied s base (callsIn s) k counts
 
 abbrev μ-loop2 : tie.MeasureT-loop2
-μ-loop2 s links calls connections heads counts₀ i base k₀ counts k = connections - k
+μ-loop2 s f links calls connections heads counts₀ i base k₀ counts k = connections - k
 
 abbrev Inv-loop3 : tie.InvT-loop3
-Inv-loop3 s links calls connections heads counts₀ i₀ base k counts i =
+Inv-loop3 s f links calls connections heads counts₀ i₀ base k counts i =
     (i ≤ calls) × (length counts ≡ 4096) × Filled (λ j. namedBy s (callRecord s j)) counts i × Named s (callsIn s) counts
 
 abbrev μ-loop3 : tie.MeasureT-loop3
-μ-loop3 s links calls connections heads counts₀ i₀ base k counts i = calls - i
+μ-loop3 s f links calls connections heads counts₀ i₀ base k counts i = calls - i
 
 sized-requires : tie.Need-sized-requires Inv-loop μ-loop Inv-loop2 μ-loop2 Inv-loop3 μ-loop3
 sized-requires c κs = search needs
@@ -51,7 +51,7 @@ loop-holds c =
         most = omega arith;
         chainCount = search needs;
         placeCount = c .sized .ensures;
-        chains = chain-start (isFirst s) (chainOf s) _ _ (λ m. zero-get 2048 m);
+        chains = chain-start (isFirst s) (chainOf (z .args .f) s) _ _ (λ m. zero-get 2048 m);
       },
     )
 

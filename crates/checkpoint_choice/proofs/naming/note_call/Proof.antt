@@ -69,7 +69,7 @@ returns c =
     let a = z .args in
     let found = rw (g .get322 .ensures, g .before .get32 .ensures, g .before .before .get16 .ensures) at (f .find .ensures (a .i) (z .pre .0)) in
     let is = rw (g .get322 .ensures, g .before .get32 .ensures, g .before .before .get16 .ensures) at (b .short-chain .ensures .0) in
-    noted-first (a .s .now) (a .heads .now) (a .links .now) (a .i) _ (z .pre .0) (z .pre .1) (z .pre .2) found (b .before .if1 .taken) _ is (b .short-chain .ensures .1)
+    noted-first (a .f) (a .s .now) (a .heads .now) (a .links .now) (a .i) _ (z .pre .0) (z .pre .1) (z .pre .2) found (b .before .if1 .taken) _ is (b .short-chain .ensures .1)
 
 returns-2 : tie.Need-returns-2
 returns-2 c =
@@ -78,7 +78,7 @@ returns-2 c =
     let z = g .before .before .before .before in
     let a = z .args in
     let found = rw (g .get322 .ensures, g .before .get32 .ensures, g .before .before .get16 .ensures) at (f .find .ensures (a .i) (z .pre .0)) in
-    noted-later (a .s .now) (a .heads .now) (a .links .now) (a .i) _ (z .pre .0) (z .pre .1) (z .pre .2) found (c .if1 .left)
+    noted-later (a .f) (a .s .now) (a .heads .now) (a .links .now) (a .i) _ (z .pre .0) (z .pre .1) (z .pre .2) found (c .if1 .left)
 
 pub note-call-spec : {M : Type 1} → statement M
 note-call-spec =

@@ -12,10 +12,10 @@ use Rattle.checkpoint_read.proofs.filling.with_calls.Statement.{stateme
 use Rattle.checkpoint_read.proofs.filling.with_calls.Tie as tie
 
 abbrev Inv-loop : tie.InvT-loop
-Inv-loop t₀ s calls connections sound links named heads i₀ t i = (i ≤ calls) × (tableOf t ≡ withCalls (tableOf t₀) s i)
+Inv-loop t₀ s f calls connections sound links named heads i₀ t i = (i ≤ calls) × (tableOf t ≡ withCalls (tableOf t₀) s i)
 
 abbrev μ-loop : tie.MeasureT-loop
-μ-loop t₀ s calls connections sound links named heads i₀ t i = calls - i
+μ-loop t₀ s f calls connections sound links named heads i₀ t i = calls - i
 
 sound-flags-requires : tie.Need-sound-flags-requires Inv-loop μ-loop
 sound-flags-requires c κs = search needs
@@ -37,7 +37,7 @@ with-call-requires c κs =
     let b = c .before in
     let v = b .before .before .before .before .before in
     let l = v .before in
-    let n = l .before .before .before .before in
+    let n = l .before .before .before .before .before in
     let f = n .before .before in
     let z = f .before .before .before in
     let a = z .args in
@@ -49,7 +49,9 @@ with-call-requires c κs =
     )
 
 add-i : tie.Need-add-i Inv-loop μ-loop
-add-i c = search needs
+add-i c =
+    let z = c .before .before .before .before .before .before .before .before .before .before .before .before .before .before .before .before .before .before in
+    omega (arith, c .before .before .before .before .before .before .before .loop-test .taken, z .pre .0 .size)
 
 loop-less : tie.Need-loop-less Inv-loop μ-loop
 loop-less c = search needs
@@ -59,7 +61,7 @@ loop-again c =
     let b = c .before .before in
     let v = b .before .before .before .before .before in
     let l = v .before in
-    let n = l .before .before .before .before in
+    let n = l .before .before .before .before .before in
     let f = n .before .before in
     let z = f .before .before .before in
     let a = z .args in
@@ -73,7 +75,7 @@ loop-again c =
 returns : tie.Need-returns Inv-loop μ-loop
 returns c =
     let l = c .before in
-    let a = l .before .before .before .before .before .before .before .before .before .args in
+    let a = l .before .before .before .before .before .before .before .before .before .before .args in
     let e : l .loop .i ≡ a .calls = omega arith in
     rw e at (l .loop .inv .1)
 

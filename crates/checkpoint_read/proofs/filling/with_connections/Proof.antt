@@ -1,28 +1,25 @@
 -- `filling::with_connections` meets its contract: after `k` turns the table is the one with the first `k` records, and
--- what is in it is marked.
+-- what is in it stands in cells.
 use Prim.Native.Nat.{_≤_, _-_}
 use native.Mathlib.Omega.{arith}
-use mathlib.Core.Path.{_≡_, sym, ap, _∙_}
+use mathlib.Core.Path.{_≡_}
 use Rattle.table.specs.Words.{tableOf}
-use Rattle.table.specs.Rules.{placeValid}
-use Rattle.table.specs.Lists.{Held}
-use Rattle.spec_changes.specs.Connections.{placeFor}
 use Rattle.spec_calls.specs.PathRules.{heldBy}
 use Rattle.spec_checkpoint.specs.Salvage.{withConnections}
-use Rattle.checkpoint_connections.specs.Marks.{Marking}
-use Rattle.checkpoint_read.proofs.Turns.{record-fits, marking-starts, connections-turn, connections-none}
+use Rattle.checkpoint_connections.specs.Cells.{TableInCells}
+use Rattle.checkpoint_read.proofs.Turns.{cells-start, connections-turn, connections-none}
 use borrow.Author.Needs.{needs}
 use Rattle.checkpoint_read.proofs.filling.with_connections.Statement.{statement}
 use Rattle.checkpoint_read.proofs.filling.with_connections.Tie as tie
 
 abbrev Inv-loop : tie.InvT-loop
-Inv-loop t₀ s calls connections slots marks₀ base k₀ t marks k = (k ≤ connections) × (tableOf t ≡ withConnections (tableOf t₀) s k) × Marking slots marks (tableOf t)
+Inv-loop t₀ s f calls connections kept held₀ base k₀ t held k = (k ≤ connections) × (tableOf t ≡ withConnections (tableOf t₀) s k) × TableInCells f s kept held (tableOf t)
 
 abbrev μ-loop : tie.MeasureT-loop
-μ-loop t₀ s calls connections slots marks₀ base k₀ t marks k = connections - k
+μ-loop t₀ s f calls connections kept held₀ base k₀ t held k = connections - k
 
-mark-calls-requires : tie.Need-mark-calls-requires Inv-loop μ-loop
-mark-calls-requires c κs = search needs
+note-calls-requires : tie.Need-note-calls-requires Inv-loop μ-loop
+note-calls-requires c κs = search needs
 
 mul-base : tie.Need-mul-base Inv-loop μ-loop
 mul-base c = search needs
@@ -33,7 +30,8 @@ add-base c = search needs
 loop-holds : tie.Need-loop-holds Inv-loop μ-loop
 loop-holds c =
     let z = c .before .before .before .before in
-    (omega arith, connections-none _ _, marking-starts _ _ (tableOf (z .args .t .now)) (z .pre .1) (z .pre .2) (c .mark-calls .ensures) (z .pre .3) (search needs))
+    let a = z .args in
+    (omega arith, connections-none _ _, cells-start (a .f) (a .s .now) _ (tableOf (a .t .now)) (z .pre .1) (z .pre .2) (c .note-calls .ensures) (z .pre .3))
 
 mul-connection-record : tie.Need-mul-connection-record Inv-loop μ-loop
 mul-connection-record c = search needs
@@ -48,9 +46,10 @@ keep-connection-requires : tie.Need-keep-connection-requires Inv-loop μ-loop
 keep-connection-requires c κs =
     let r = c .before .before .before in
     let l = r .before .before in
-    let b = l .before .before .before .before in
-    let a = b .before .args in
-    (l .loop .inv .2, ap (λ (y : Held). placeValid (placeFor (y .lsp))) (r .connection-record .ensures .0) ∙ record-fits (a .s .now) (a .calls) (a .connections) (l .loop .k) (b .before .pre .0) (λ j. b .shared-slice-known .given j .fits) (omega arith))
+    let z = l .before .before .before .before .before in
+    let sized = z .pre .0 in
+    let calls = sized .calls in
+    (l .loop .inv .2, calls, rw (sized .connections, calls) at (sized .size), omega (arith, r .before .loop-test .taken, sized .connections), rw calls at (r .connection-record .ensures .0))
 
 add-k : tie.Need-add-k Inv-loop μ-loop
 add-k c = search needs
@@ -80,7 +79,7 @@ with-connections-spec =
     (tie.spec
     Inv-loop
     μ-loop
-    mark-calls-requires
+    note-calls-requires
     mul-base
     add-base
     loop-holds

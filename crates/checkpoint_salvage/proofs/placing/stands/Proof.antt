@@ -7,11 +7,12 @@ use Rattle.table.proofs.Cells.{used-long}
 use Rattle.table.specs.Rules.{validIds, callFreeClear, rulesHold}
 use Rattle.spec_changes.proofs.Words.{words-calls}
 use Rattle.spec_changes.proofs.Valid.{ids-named}
+use Rattle.spec_calls.specs.CallRules.{idsIn}
 use Rattle.spec_checkpoint.specs.Layout.{callRecord}
 use Rattle.spec_checkpoint.specs.Salvage.{placed}
 use Rattle.spec_checkpoint.proofs.Part.{record-bare}
 use Rattle.find_call.proofs.Looks.{found}
-use Rattle.checkpoint_salvage.proofs.Stands.{standsBeside, stands-is}
+use Rattle.checkpoint_salvage.proofs.Stands.{standsBeside, short-stands, stands-is}
 use borrow.Author.Needs.{needs}
 use Rattle.checkpoint_salvage.proofs.placing.stands.Statement.{statement}
 use Rattle.checkpoint_salvage.proofs.placing.stands.Tie as tie
@@ -48,32 +49,47 @@ returns-2 c =
     let same = ap (λ x. x .sender) (q .record-request .ensures .0) in
     rw (sym (d .tidy .ensures) ∙ not-false _ (q .before .if1 .left), rw same at (sym (m .listing-of .ensures .0) ∙ not-true _ (c .if2 .taken))) at (law (d .before .before))
 
-share-used-up-requires : tie.Need-share-used-up-requires
-share-used-up-requires c κs = search needs
+short-in-use-requires : tie.Need-short-in-use-requires
+short-in-use-requires c κs = search needs
 
 returns-3 : tie.Need-returns-3
 returns-3 c =
+    let q = c .before .before .before .before .before in
+    let z = q .before .before .before .before in
+    let s = z .args .s .now in
+    let r = callRecord s (z .args .i) .call in
+    let e = q .record-request .ensures .0 in
+    let short = rw e at (sym (c .before .short-in-use .ensures (idsIn s (q .record-request .result) .long)) ∙ c .if3 .taken) in
+    sym (short-stands (tableOf (z .args .t .now)) r short) ∙ law z
+
+share-used-up-requires : tie.Need-share-used-up-requires
+share-used-up-requires c κs = search needs
+
+returns-4 : tie.Need-returns-4
+returns-4 c =
     let u = c .before in
-    let m = u .before .before .before in
+    let i2 = u .before .before .before in
+    let m = i2 .before .before in
     let q = m .before in
     let d = q .before .before in
     let same = ap (λ x. x .sender) (q .record-request .ensures .0) in
     rw (
       sym (d .tidy .ensures) ∙ not-false _ (q .before .if1 .left),
-      rw same at (sym (m .listing-of .ensures .0) ∙ not-false _ (u .before .if2 .left)),
-      rw same at (sym (u .share-used-up .ensures) ∙ c .if3 .taken),
+      rw same at (sym (m .listing-of .ensures .0) ∙ not-false _ (i2 .if2 .left)),
+      rw same at (sym (u .share-used-up .ensures) ∙ c .if4 .taken),
     ) at (law (d .before .before))
 
 look-up-requires : tie.Need-look-up-requires
 look-up-requires c κs =
-    let q = c .before .before .before .before .before in
+    let q = c .before .before .before .before .before .before .before in
     (q .before .before .before .before .pre .1, q .record-request .ensures .1, q .record-request .ensures .2)
 
-returns-4 : tie.Need-returns-4
-returns-4 c =
+returns-5 : tie.Need-returns-5
+returns-5 c =
     let l = c .before .before in
     let u = l .before .before in
-    let m = u .before .before .before in
+    let i2 = u .before .before .before in
+    let m = i2 .before .before in
     let q = m .before in
     let d = q .before .before in
     let z = d .before .before in
@@ -83,8 +99,8 @@ returns-4 c =
     rw (f .long, f .short, e)
     (rw (
       sym (d .tidy .ensures) ∙ not-false _ (q .before .if1 .left),
-      rw same at (sym (m .listing-of .ensures .0) ∙ not-false _ (u .before .if2 .left)),
-      rw same at (sym (u .share-used-up .ensures) ∙ l .before .if3 .left),
+      rw same at (sym (m .listing-of .ensures .0) ∙ not-false _ (i2 .if2 .left)),
+      rw same at (sym (u .share-used-up .ensures) ∙ l .before .if4 .left),
     ) at (law z))
 
 pub stands-spec : {M : Type 1} → statement M
@@ -96,7 +112,9 @@ stands-spec =
     record-request-requires
     listing-of-requires
     returns-2
-    share-used-up-requires
+    short-in-use-requires
     returns-3
+    share-used-up-requires
+    returns-4
     look-up-requires
-    returns-4)
+    returns-5)
