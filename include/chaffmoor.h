@@ -18,7 +18,7 @@
  *   chaffmoor_read_roster           512 bytes
  *   chaffmoor_handle             20,480 bytes
  *   chaffmoor_write_checkpoint   20,480 bytes
- *   chaffmoor_read_checkpoint    36,864 bytes
+ *   chaffmoor_read_checkpoint    24,576 bytes
  *
  * The struct layouts are those of the x86-64 System V ABI; the static assertions at the end hold them fast. */
 #ifndef CHAFFMOOR_H

@@ -5,6 +5,7 @@ use crate::clock::{best_of_three, LONG};
 use crate::inputs::{calls, wide, Calls, Pairs};
 use crate::largest;
 use crate::output::{self, thousands};
+use crate::tried_checkpoints;
 use compare::first;
 use second::table::Table;
 
@@ -38,7 +39,8 @@ pub fn measure(calls: Calls) {
 
 /// Reads checkpoints of the largest counts, with salvage: the best of three readings of each.
 pub fn measure_large() {
-    for (what, checkpoint) in largest::plain().into_iter().chain(chosen_checkpoints::all()) {
+    let chosen = chosen_checkpoints::all().into_iter().chain(tried_checkpoints::all());
+    for (what, checkpoint) in largest::plain().into_iter().chain(chosen) {
         for full in [wide(200, Pairs::One), calls(64, Pairs::One)] {
             measure_few(what, full, &checkpoint);
         }

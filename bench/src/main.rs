@@ -17,6 +17,7 @@ mod output;
 mod parts;
 mod sizes;
 mod stack;
+mod tried_checkpoints;
 mod yardstick;
 
 use inputs::{Calls, Pairs, ALL};

@@ -1,10 +1,12 @@
-// How what a checkpoint holds is spread: by the numbers that tell one from another, over 2,048 places. The factors come
-// of all the bytes of the checkpoint, so that whoever chooses records that meet in one place changes the factors by
-// them. Only the time that a reading takes rests on this: every claim holds for any factors.
+// How what a checkpoint holds is spread: by the numbers that tell one from another, over 2,048 places. Four factors, made
+// of the checkpoint's bytes, decide the places, so that whoever chooses records that meet in one place changes the
+// factors by them. Only the time that a reading takes rests on this: every claim holds for any factors.
 ghost use mathlib.Core.Path.{_≡_};
 ghost use Prim.Native.Nat.{_*_, _<_};
-ghost use Rattle.checkpoint_chains.specs.Spread.{mixedWith, spreadOver};
-use numbers::big_endian::get32;
+ghost use Rattle.checkpoint_chains.specs.Spread.{stirredWith, mixedWith, spreadOver};
+use crate::digest::digest_of;
+
+mod digest;
 
 pub struct Factors {
     pub first: u32,
@@ -19,35 +21,26 @@ fn product(a: u32, b: u32) -> u64
     (a as u64) * (b as u64)
 }
 
-// A number stirred into those before it: the middle bits of a square, from which there is no simple way back.
-fn stirred(sum: u32, number: u32) -> u32 {
-    let x = ((sum as u64 + number as u64) % 4294967296) as u32;
-    ((product(x, x) / 65536 + 2654435769) % 4294967296) as u32
-}
-
-// Odd, so that no bit of what is multiplied by it is lost.
-fn odd(number: u32) -> u32 {
-    number / 2 * 2 + 1
+// One number made of three. Where two of them stay, the others' results stay apart: x * (2 * x + 1) has each value once.
+// It is no sum of what each bit adds, so that numbers in even steps do not meet; and its halves change places, since
+// none of its bits depends on a higher one of x.
+fn stirred(factor: u32, sum: u32, number: u32) -> u32
+    ensures { λ r. ⌜ r ≡ stirredWith factor sum number ⌝ }
+{
+    let x = ((factor as u64 + sum as u64 + number as u64) % 4294967296) as u32;
+    let y = ((2 * (x as u64) + 1) % 4294967296) as u32;
+    let z = product(x, y) % 4294967296;
+    (z % 65536 * 65536 + z / 65536) as u32
 }
 
 // Nothing is promised of the factors: any would do.
 pub fn factors_of(s: &[u8]) -> Factors {
-    let words = s.len() / 8;
-    let mut even: u32 = 2246822519;
-    let mut other: u32 = 3266489917;
-    let mut k: usize = 0;
-    while k < words {
-        even = stirred(even, get32(s, 8 * k));
-        other = stirred(other, get32(s, 8 * k + 4));
-        k += 1;
-    }
-    let third = stirred(even, other);
-    let fourth = stirred(other, third);
+    let d = digest_of(s);
     Factors {
-        first: odd(even),
-        second: odd(other),
-        third: odd(third),
-        fourth: odd(fourth),
+        first: (d.one >> 32) as u32,
+        second: (d.one % 4294967296) as u32,
+        third: (d.two >> 32) as u32,
+        fourth: (d.two % 4294967296) as u32,
     }
 }
 
@@ -55,17 +48,16 @@ pub fn factors_of(s: &[u8]) -> Factors {
 pub fn mixed(f: Factors, sum: u32, number: u32) -> u32
     ensures { λ r. ⌜ r ≡ mixedWith f sum number ⌝ }
 {
-    let x = ((sum as u64 + number as u64) % 4294967296) as u32;
-    (product(x, f.fourth) % 4294967296) as u32
+    stirred(f.fourth, sum, number)
 }
 
-// The place of four numbers.
+// The place of four numbers. After the last of them all is stirred twice more, as often as it takes for numbers that
+// differ in a few high bits to be as far apart as any.
 pub fn spread(f: Factors, a: u32, b: u32, c: u32, d: u32) -> usize
     ensures { λ r. ⌜ (r ≡ spreadOver f a b c d) × (r < 2048) ⌝ }
 {
-    let low = product(a, f.first) % 4294967296
-        + product(b, f.second) % 4294967296
-        + product(c, f.third) % 4294967296
-        + product(d, f.fourth) % 4294967296;
-    (low % 4294967296 / 2097152) as usize
+    let two = stirred(f.first, stirred(f.third, 0, c), a);
+    let four = stirred(f.fourth, stirred(f.second, two, b), d);
+    let last = stirred(f.third, stirred(f.first, four, 0), 0);
+    (last / 2097152) as usize
 }

@@ -58,14 +58,14 @@ better-in f s sound named n i k h =
     (one-chain f (idsOf (callRecord s (n - 1 - k) .call)) (idsOf (callRecord s i .call)) (b .1)))
 
 module _ {f : Factors} {s sound heads links : List ℕ} {n : ℕ} (c : LongChains f s sound heads links n) where
-  head-is : (m : ℕ) → m < 2048 → getD heads m 0 ≡ lastBelow (inChain (soundAt sound n) (chainAt f s n) m) n
+  head-is : (m : ℕ) → m < 1024 → getD heads m 0 ≡ lastBelow (inChain (soundAt sound n) (chainAt f s n) m) n
   head-is m h = c .chains .head m (rw (c .room) h)
 
-  pub head-within : (m : ℕ) → m < 2048 → getD heads m 0 ≤ n
+  pub head-within : (m : ℕ) → m < 1024 → getD heads m 0 ≤ n
   head-within m h = rw (head-is m h) (last-within (inChain (soundAt sound n) (chainAt f s n) m) n)
 
   module _ {named : List ℕ} {i : ℕ} where
-    pub walk-starts : (m : ℕ) → m ≡ chainOf f s i → m < 2048 → Walked f s sound named n i (getD heads m 0)
+    pub walk-starts : (m : ℕ) → m ≡ chainOf f s i → m < 1024 → Walked f s sound named n i (getD heads m 0)
     walk-starts m e h = rw (head-is m h, e) (record {
       within = last-within (inOwn f s sound n i) n;
       last = last-itself (inOwn f s sound n i) n;

@@ -135,7 +135,7 @@ module _ (f : Factors) (s heads links : List ℕ) (n short endpoint sender : ℕ
   search-head e is =
       rw is
       (reached-head (isFirst s) (chainOf f s) heads links n (shortChain f short endpoint sender) (λ i. hasShort s short endpoint sender i) (k .chains)
-      (has-chain s short endpoint sender f) (rw (k .chainCount) (spread-within f endpoint sender short 0)))
+      (has-chain s short endpoint sender f) (rw (k .chainCount) (omega (arith, spread-within f endpoint sender short 0))))
 
   pub search-end : (e : ℕ) → e ≡ 0 → Searched f s n short endpoint sender e → 0 ≡ standIn s n short endpoint sender
   unfolding standIn
@@ -163,7 +163,7 @@ module _ (f : Factors) (s heads links : List ℕ) (n short endpoint sender : ℕ
 -- ---- one more record noted
 
 module _ (f : Factors) (s heads links : List ℕ) (i e : ℕ) (c : Noted f s heads links i) (within : 4 + 55 * i + 55 ≤ length s) (room : i < 4096) (found : e ≡ standInFor s i i) where
-  pub noted-first : e ≡ 0 → (m : ℕ) → m ≡ chainOf f s i → m < 2048 → Noted f s (set heads m (i + 1)) (set links i (getD heads m 0)) (i + 1)
+  pub noted-first : e ≡ 0 → (m : ℕ) → m ≡ chainOf f s i → m < 1024 → Noted f s (set heads m (i + 1)) (set links i (getD heads m 0)) (i + 1)
   noted-first none m is inside = rw (is, add-one i) (record {
     within = omega arith;
     most = omega arith;

@@ -1,6 +1,6 @@
 -- The call records of a checkpoint in chains, by short ID and pair: of the records that have one short ID and pair, the
 -- first stands for all. Words of contracts only: no rule cites these.
-use Prim.Native.Nat.{ℕ, _+_, _*_, _-_, _≤_}
+use Prim.Native.Nat.{ℕ, _+_, _*_, _-_, _/_, _≤_}
 use mathlib.Core.Path.{_≡_}
 use mathlib.Core.List.{List}
 use mathlib.Core.Bool.{Bool, cond, not, _&&_}
@@ -14,9 +14,9 @@ use Rattle.spec_checkpoint.specs.Layout.{callRecord}
 use Rattle.checkpoint_chains.specs.declared.Factors.{Factors}
 use Rattle.checkpoint_chains.specs.Spread.{spreadOver}
 
--- the chain of a short ID and a pair, one of 2,048, by a checkpoint's factors
+-- the chain of a short ID and a pair, one of 1,024, by a checkpoint's factors
 abbrev pub shortChain : Factors → ℕ → ℕ → ℕ → ℕ
-shortChain f short endpoint sender = spreadOver f endpoint sender short 0
+shortChain f short endpoint sender = spreadOver f endpoint sender short 0 / 2
 
 -- the chain of call record i
 abbrev pub chainOf : Factors → List ℕ → ℕ → ℕ
@@ -50,7 +50,7 @@ standInNamed s n x = standIn s n (x .call) (x .lsp .endpoint) (x .lsp .sender)
 pub record Noted (f : Factors) (s heads links : List ℕ) (n : ℕ) : Type 0 where
   pub within : 4 + 55 * n ≤ length s
   pub most : n ≤ 4096
-  pub chainCount : length heads ≡ 2048
+  pub chainCount : length heads ≡ 1024
   pub placeCount : length links ≡ 4096
   pub chains : InChains (isFirst s) (chainOf f s) heads links n
 

@@ -26,18 +26,17 @@ use numbers::big_endian::get32;
 use table::layout::Words;
 use table_words::names::name_size;
 
-// 1 for each record that is sound alone: in a fresh table, which keeps the rules and has no call.
-pub fn sound_flags(t: &Words, s: &[u8], calls: usize) -> [u8; 4096]
-    requires { ⌜ (4 + 55 * calls ≤ length (now s)) × (calls ≤ 4096) × (rulesHold (tableOf (now t)) ≡ true) × (tableOf (now t) .occupied ≡ replicate 4 0) ⌝ }
-    ensures { λ m. ⌜ Filled (λ j. bit (soundAlone (tableOf (now (t .entry))) (callRecord (now (s .entry)) j))) m calls ⌝ }
+// 1 for each record that is sound alone: in a fresh table, which keeps the rules and has no call. The caller lends the
+// flags, to save stack: what they hold before does not matter.
+pub fn sound_flags(t: &Words, s: &[u8], flags: &mut [u8; 4096], calls: usize)
+    requires { ⌜ (4 + 55 * calls ≤ length (now s)) × (calls ≤ 4096) × (rulesHold (tableOf (now t)) ≡ true) × (tableOf (now t) .occupied ≡ replicate 4 0) × (length (now flags) ≡ 4096) ⌝ }
+    ensures { λ _. ⌜ Filled (λ j. bit (soundAlone (tableOf (now (t .entry))) (callRecord (now (s .entry)) j))) (now (flags .exit)) calls ⌝ }
 {
-    let mut flags = [0u8; 4096];
     let mut i: usize = 0;
     while i < calls {
         flags[i] = one_if(sound_alone(t, s, i)) as u8;
         i += 1;
     }
-    flags
 }
 
 // How many of the 32 bytes of a record's name count.
@@ -98,10 +97,10 @@ fn is_better(s: &[u8], sound: &[u8; 4096], named: &[u16; 4096], i: usize, j: usi
     same_long(s, j, i)
 }
 
-// The chain of record i's pair and long Call ID, one of 2,048.
+// The chain of record i's pair and long Call ID, one of 1,024.
 fn long_chain(s: &[u8], f: Factors, i: usize) -> usize
     requires { ⌜ 4 + 55 * i + 55 ≤ length (now s) ⌝ }
-    ensures { λ r. ⌜ (r ≡ chainOf f (now (s .entry)) i) × (r < 2048) ⌝ }
+    ensures { λ r. ⌜ (r ≡ chainOf f (now (s .entry)) i) × (r < 1024) ⌝ }
 {
     let at = 4 + 55 * i;
     let n = size_at(s, i);
@@ -111,7 +110,7 @@ fn long_chain(s: &[u8], f: Factors, i: usize) -> usize
         sum = mixed(f, sum, to_usize(s[at + 12 + k]) as u32);
         k += 1;
     }
-    spread(f, get32(s, at + 3), get32(s, at + 7), sum, 0)
+    spread(f, get32(s, at + 3), get32(s, at + 7), sum, 0) / 2
 }
 
 // The records that are sound in chains by pair and long Call ID, the last record first, so that a walk meets the first
@@ -122,11 +121,11 @@ pub fn long_chains(
     s: &[u8],
     f: Factors,
     sound: &[u8; 4096],
-    heads: &mut [u16; 2048],
+    heads: &mut [u16; 1024],
     links: &mut [u16; 4096],
     calls: usize,
 )
-    requires { ⌜ (4 + 55 * calls ≤ length (now s)) × (calls ≤ 4096) × (now heads ≡ replicate 2048 0) ⌝ }
+    requires { ⌜ (4 + 55 * calls ≤ length (now s)) × (calls ≤ 4096) × (now heads ≡ replicate 1024 0) ⌝ }
     ensures { λ _. ⌜ LongChains f (now (s .entry)) (now (sound .entry)) (now (heads .exit)) (now (links .exit)) calls ⌝ }
 {
     sized(links);
@@ -147,7 +146,7 @@ pub fn long_chains(
 pub fn is_best(
     s: &[u8],
     f: Factors,
-    heads: &[u16; 2048],
+    heads: &[u16; 1024],
     links: &[u16; 4096],
     sound: &[u8; 4096],
     named: &[u16; 4096],

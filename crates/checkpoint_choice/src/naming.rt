@@ -1,10 +1,10 @@
 // How many connection records of a checkpoint name each call record, in one pass over the connections. Call records are
-// looked up by short ID and pair, in 2,048 chains: a head is one more than the last record of its chain, a link one
+// looked up by short ID and pair, in 1,024 chains: a head is one more than the last record of its chain, a link one
 // more than the record before, and 0 where there is none. Of the records that have one short ID and pair only the first
 // is in a chain: it stands for the others, and connections are counted for it.
 ghost use mathlib.Core.Path.{_≡_};
 ghost use Prim.Native.Nat.{ℕ, _+_, _*_, _-_, _<_, _≤_};
-ghost use lib.ListN.{length, getD, set};
+ghost use lib.ListN.{length, getD, set, replicate};
 ghost use Rattle.spec_checkpoint.specs.Layout.{callsIn, callRecord, heldAtByte};
 ghost use Rattle.spec_checkpoint.specs.Salvage.{namedBy};
 ghost use Rattle.checkpoint_choice.specs.Sized.{Sized};
@@ -27,11 +27,11 @@ pub(crate) fn sized(links: &[u16; 4096])
     copied(*links)
 }
 
-// The chain of a short ID and a pair, one of 2,048.
+// The chain of a short ID and a pair, one of 1,024.
 fn short_chain(f: Factors, short: u16, endpoint: u32, sender: u32) -> usize
-    ensures { λ r. ⌜ (r ≡ shortChain f short endpoint sender) × (r < 2048) ⌝ }
+    ensures { λ r. ⌜ (r ≡ shortChain f short endpoint sender) × (r < 1024) ⌝ }
 {
-    spread(f, endpoint, sender, short as u32, 0)
+    spread(f, endpoint, sender, short as u32, 0) / 2
 }
 
 // Call record i has this short ID and pair.
@@ -48,7 +48,7 @@ fn is_short(s: &[u8], i: usize, short: u16, endpoint: u32, sender: u32) -> bool
 fn find(
     s: &[u8],
     f: Factors,
-    heads: &[u16; 2048],
+    heads: &[u16; 1024],
     links: &[u16; 4096],
     short: u16,
     endpoint: u32,
@@ -68,7 +68,7 @@ fn find(
 }
 
 // Notes call record i: it is put into its chain, unless an earlier one stands for it.
-fn note_call(s: &[u8], f: Factors, heads: &mut [u16; 2048], links: &mut [u16; 4096], i: usize)
+fn note_call(s: &[u8], f: Factors, heads: &mut [u16; 1024], links: &mut [u16; 4096], i: usize)
     requires { ⌜ Noted f (now s) (now heads) (now links) i × (4 + 55 * i + 55 ≤ length (now s)) × (i < 4096) ⌝ }
     ensures { λ _. ⌜ Noted f (now (s .entry)) (now (heads .exit)) (now (links .exit)) (i + 1) ⌝ }
 {
@@ -87,7 +87,7 @@ fn note_call(s: &[u8], f: Factors, heads: &mut [u16; 2048], links: &mut [u16; 40
 fn count_connection(
     s: &[u8],
     f: Factors,
-    heads: &[u16; 2048],
+    heads: &[u16; 1024],
     links: &[u16; 4096],
     counts: &mut [u16; 4096],
     at: usize,
@@ -113,7 +113,7 @@ fn count_connection(
 fn count_for(
     s: &[u8],
     f: Factors,
-    heads: &[u16; 2048],
+    heads: &[u16; 1024],
     links: &[u16; 4096],
     counts: &mut [u16; 4096],
     i: usize,
@@ -134,35 +134,35 @@ fn count_for(
     counts[i] = counts[e - 1];
 }
 
-// How many connection records name each call record. The links are lent, to save stack: what they hold does not matter.
+// How many connection records name each call record. The caller lends heads and counts of zeros, and links, to save
+// stack: what the links hold before does not matter.
 pub fn named_counts(
     s: &[u8],
     f: Factors,
+    heads: &mut [u16; 1024],
     links: &mut [u16; 4096],
+    counts: &mut [u16; 4096],
     calls: usize,
     connections: usize,
-) -> [u16; 4096]
-    requires { ⌜ Sized (now s) calls connections × (calls ≤ 4096) × (connections < 65536) ⌝ }
-    ensures { λ m. ⌜ Filled (λ j. namedBy (now (s .entry)) (callRecord (now (s .entry)) j)) m calls ⌝ }
+)
+    requires { ⌜ Sized (now s) calls connections × (calls ≤ 4096) × (connections < 65536) × (now heads ≡ replicate 1024 0) × (now counts ≡ replicate 4096 0) ⌝ }
+    ensures { λ _. ⌜ Filled (λ j. namedBy (now (s .entry)) (callRecord (now (s .entry)) j)) (now (counts .exit)) calls ⌝ }
 {
     sized(links);
-    let mut heads: [u16; 2048] = [0; 2048];
-    let mut counts: [u16; 4096] = [0; 4096];
     let mut i: usize = 0;
     while i < calls {
-        note_call(s, f, &mut heads, links, i);
+        note_call(s, f, heads, links, i);
         i += 1;
     }
     let base = 4 + 55 * calls;
     let mut k: usize = 0;
     while k < connections {
-        count_connection(s, f, &heads, links, &mut counts, base + 18 * k);
+        count_connection(s, f, heads, links, counts, base + 18 * k);
         k += 1;
     }
     i = 0;
     while i < calls {
-        count_for(s, f, &heads, links, &mut counts, i);
+        count_for(s, f, heads, links, counts, i);
         i += 1;
     }
-    counts
 }

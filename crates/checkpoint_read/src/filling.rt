@@ -24,15 +24,19 @@ use checkpoint_records::read::connection_record;
 use checkpoint_salvage::placing::with_call;
 use table::layout::Words;
 
-// Into a fresh table, which keeps the rules and has no call.
+// Into a fresh table, which keeps the rules and has no call. The arrays are made here, once, and lent, to save stack: the
+// heads of the chains by short ID are those of the chains by long Call ID next, zeros again.
 pub fn with_calls(t: &mut Words, s: &[u8], f: Factors, calls: usize, connections: usize)
     requires { ⌜ Sized (now s) calls connections × (connections < 65536) × (rulesHold (tableOf (now t)) ≡ true) × (tableOf (now t) .occupied ≡ replicate 4 0) ⌝ }
     ensures { λ _. ⌜ tableOf (now (t .exit)) ≡ withCalls (tableOf (now (t .entry))) (now (s .entry)) calls ⌝ }
 {
-    let sound = sound_flags(t, s, calls);
+    let mut sound: [u8; 4096] = [0; 4096];
+    sound_flags(t, s, &mut sound, calls);
+    let mut heads: [u16; 1024] = [0; 1024];
     let mut links: [u16; 4096] = [0; 4096];
-    let named = named_counts(s, f, &mut links, calls, connections);
-    let mut heads: [u16; 2048] = [0; 2048];
+    let mut named: [u16; 4096] = [0; 4096];
+    named_counts(s, f, &mut heads, &mut links, &mut named, calls, connections);
+    heads = [0; 1024];
     long_chains(s, f, &sound, &mut heads, &mut links, calls);
     let mut i: usize = 0;
     while i < calls {

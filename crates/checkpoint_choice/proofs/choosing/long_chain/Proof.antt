@@ -1,7 +1,7 @@
 -- `choosing::long_chain` meets its contract: what is mixed so far, with the rest of the name, gives the whole.
-use Prim.Native.Nat.{_≤_, _-_, min}
+use Prim.Native.Nat.{_≤_, _-_, _/_, min}
 use native.Mathlib.Omega.{arith}
-use mathlib.Core.Path.{_≡_, refl, sym, _∙_}
+use mathlib.Core.Path.{_≡_, refl, sym, ap, _∙_}
 use lib.ListN.{drop}
 use Rattle.table.specs.Lists.{idsOf}
 use Rattle.spec_checkpoint.specs.Layout.{callRecord}
@@ -85,7 +85,7 @@ returns c =
     let l = c .before .before .before .before in
     let z = l .before .before .before in
     let whole = sym (mixed-ends (z .args .s .now) (z .args .i) (z .pre) (z .args .f) (l .loop .k) (l .loop .sum) (omega arith)) ∙ l .loop .inv .2 in
-    (c .spread .ensures .0 ∙ rw (c .before .before .get32 .ensures, c .before .get322 .ensures, whole), c .spread .ensures .1)
+    (ap (λ n. n / 2) (c .spread .ensures .0 ∙ rw (c .before .before .get32 .ensures, c .before .get322 .ensures, whole)), omega (arith, c .spread .ensures .1))
 
 pub long-chain-spec : {M : Type 1} → statement M
 long-chain-spec =

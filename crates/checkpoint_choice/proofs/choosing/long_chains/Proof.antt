@@ -16,7 +16,7 @@ use Rattle.checkpoint_choice.proofs.choosing.long_chains.Tie as tie
 
 abbrev Inv-loop : tie.InvT-loop
 Inv-loop s f sound heads₀ links₀ calls k₀ heads links k =
-    (k ≤ calls) × (length heads ≡ 2048) × (length links ≡ 4096) × InChains (soundAt sound calls) (chainAt f s calls) heads links k
+    (k ≤ calls) × (length heads ≡ 1024) × (length links ≡ 4096) × InChains (soundAt sound calls) (chainAt f s calls) heads links k
 
 abbrev μ-loop : tie.MeasureT-loop
 μ-loop s f sound heads₀ links₀ calls k₀ heads links k = calls - k
@@ -28,7 +28,7 @@ loop-holds : tie.Need-loop-holds Inv-loop μ-loop
 loop-holds c =
     let z = c .before .before .before in
     let zeros = z .pre .2 in
-    (omega arith, ap length zeros ∙ length-replicate {A = ℕ} 2048 0, c .sized .ensures, chain-start _ _ _ _ (λ m. ap (λ l. getD l m 0) zeros ∙ zero-get 2048 m))
+    (omega arith, ap length zeros ∙ length-replicate {A = ℕ} 1024 0, c .sized .ensures, chain-start _ _ _ _ (λ m. ap (λ l. getD l m 0) zeros ∙ zero-get 1024 m))
 
 sub-i : tie.Need-sub-i Inv-loop μ-loop
 sub-i c = search needs

@@ -15,10 +15,10 @@ use Rattle.checkpoint_choice.proofs.choosing.sound_flags.Statement.{sta
 use Rattle.checkpoint_choice.proofs.choosing.sound_flags.Tie as tie
 
 abbrev Inv-loop : tie.InvT-loop
-Inv-loop t s calls flags₀ i₀ flags i = (i ≤ calls) × (length flags ≡ 4096) × Filled (λ j. bit (soundAlone (tableOf t) (callRecord s j))) flags i
+Inv-loop t s flags₀ calls i₀ flags i = (i ≤ calls) × (length flags ≡ 4096) × Filled (λ j. bit (soundAlone (tableOf t) (callRecord s j))) flags i
 
 abbrev μ-loop : tie.MeasureT-loop
-μ-loop t s calls flags₀ i₀ flags i = calls - i
+μ-loop t s flags₀ calls i₀ flags i = calls - i
 
 loop-holds : tie.Need-loop-holds Inv-loop μ-loop
 loop-holds c = (omega arith, search needs, λ j b. absurd (not-suc-le-zero b))
@@ -32,8 +32,8 @@ one-if-requires c κs = search needs
 cast-flags : tie.Need-cast-flags Inv-loop μ-loop
 cast-flags c = search needs
 
-array-write-flags : tie.Need-array-write-flags Inv-loop μ-loop
-array-write-flags c = search needs
+element-write-flags : tie.Need-element-write-flags Inv-loop μ-loop
+element-write-flags c = search needs
 
 add-i : tie.Need-add-i Inv-loop μ-loop
 add-i c = search needs
@@ -62,7 +62,7 @@ sound-flags-spec =
     sound-alone-requires
     one-if-requires
     cast-flags
-    array-write-flags
+    element-write-flags
     add-i
     loop-less
     loop-again

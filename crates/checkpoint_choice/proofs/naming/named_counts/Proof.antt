@@ -4,7 +4,7 @@ use Prim.Native.Nat.{ℕ, _+_, _*_, _≤_, _<_, _-_}
 use native.Mathlib.Omega.{arith}
 use native.Mathlib.Nat.{not-suc-le-zero}
 use mathlib.Core.Path.{_≡_, refl, ap, _∙_}
-use lib.ListN.{length, getD, replicate, length-set}
+use lib.ListN.{length, getD, length-set, length-replicate}
 use Rattle.lists.proofs.Chain.{chain-start}
 use Rattle.table_words.proofs.NameBytes.{zero-get}
 use Rattle.spec_checkpoint.specs.Layout.{callsIn, callRecord, heldAtByte}
@@ -18,24 +18,24 @@ use Rattle.checkpoint_choice.proofs.naming.named_counts.Statement.{stat
 use Rattle.checkpoint_choice.proofs.naming.named_counts.Tie as tie
 
 abbrev Inv-loop : tie.InvT-loop
-Inv-loop s f links₀ calls connections heads₀ counts i₀ links heads i = (i ≤ calls) × Noted f s heads links i
+Inv-loop s f heads₀ links₀ counts calls connections i₀ heads links i = (i ≤ calls) × Noted f s heads links i
 
 abbrev μ-loop : tie.MeasureT-loop
-μ-loop s f links₀ calls connections heads₀ counts i₀ links heads i = calls - i
+μ-loop s f heads₀ links₀ counts calls connections i₀ heads links i = calls - i
 
 abbrev Inv-loop2 : tie.InvT-loop2
-Inv-loop2 s f links calls connections heads counts₀ i base k₀ counts k =
+Inv-loop2 s f heads links counts₀ calls connections i base k₀ counts k =
     (k ≤ connections) × (length counts ≡ 4096) × ((j : ℕ) → getD counts j 0 ≤ k) × Tallied s base (callsIn s) k counts
 
 abbrev μ-loop2 : tie.MeasureT-loop2
-μ-loop2 s f links calls connections heads counts₀ i base k₀ counts k = connections - k
+μ-loop2 s f heads links counts₀ calls connections i base k₀ counts k = connections - k
 
 abbrev Inv-loop3 : tie.InvT-loop3
-Inv-loop3 s f links calls connections heads counts₀ i₀ base k counts i =
+Inv-loop3 s f heads links counts₀ calls connections i₀ base k counts i =
     (i ≤ calls) × (length counts ≡ 4096) × Filled (λ j. namedBy s (callRecord s j)) counts i × Named s (callsIn s) counts
 
 abbrev μ-loop3 : tie.MeasureT-loop3
-μ-loop3 s f links calls connections heads counts₀ i₀ base k counts i = calls - i
+μ-loop3 s f heads links counts₀ calls connections i₀ base k counts i = calls - i
 
 sized-requires : tie.Need-sized-requires Inv-loop μ-loop Inv-loop2 μ-loop2 Inv-loop3 μ-loop3
 sized-requires c κs = search needs
@@ -44,14 +44,15 @@ loop-holds : tie.Need-loop-holds Inv-loop μ-loop Inv-loop2 μ-loop2 Inv-loop3 �
 loop-holds c =
     let z = c .before .before .before in
     let s = z .args .s .now in
-    let size = z .pre .0 .size in (
+    let size = z .pre .0 .size in
+    let zeros = z .pre .3 in (
       omega arith,
       record {
         within = omega arith;
         most = omega arith;
-        chainCount = search needs;
+        chainCount = ap length zeros ∙ length-replicate {A = ℕ} 1024 0;
         placeCount = c .sized .ensures;
-        chains = chain-start (isFirst s) (chainOf (z .args .f) s) _ _ (λ m. zero-get 2048 m);
+        chains = chain-start (isFirst s) (chainOf (z .args .f) s) _ _ (λ m. ap (λ l. getD l m 0) zeros ∙ zero-get 1024 m);
       },
     )
 
@@ -81,7 +82,8 @@ loop2-holds : tie.Need-loop2-holds Inv-loop μ-loop Inv-loop2 μ-loop2 Inv-loop3
 loop2-holds c =
     let z = c .before .before .before .before .before in
     let s = z .args .s .now in
-    (omega arith, search needs, λ j. omega (arith, zero-get 4096 j), tallied-none s (4 + 55 * z .args .calls) (callsIn s) (replicate 4096 0) (λ j. zero-get 4096 j))
+    let zero : (j : ℕ) → getD (z .args .counts .now) j 0 ≡ 0 = λ j. ap (λ l. getD l j 0) (z .pre .4) ∙ zero-get 4096 j in
+    (omega arith, ap length (z .pre .4) ∙ length-replicate {A = ℕ} 4096 0, λ j. omega (arith, zero j), tallied-none s (4 + 55 * z .args .calls) (callsIn s) (z .args .counts .now) zero)
 
 mul-count-connection :
     tie.Need-mul-count-connection Inv-loop μ-loop Inv-loop2 μ-loop2 Inv-loop3 μ-loop3

@@ -12,10 +12,10 @@ use Rattle.checkpoint_read.proofs.filling.with_calls.Statement.{stateme
 use Rattle.checkpoint_read.proofs.filling.with_calls.Tie as tie
 
 abbrev Inv-loop : tie.InvT-loop
-Inv-loop t₀ s f calls connections sound links named heads i₀ t i = (i ≤ calls) × (tableOf t ≡ withCalls (tableOf t₀) s i)
+Inv-loop t₀ s f calls connections sound heads links named i₀ t i = (i ≤ calls) × (tableOf t ≡ withCalls (tableOf t₀) s i)
 
 abbrev μ-loop : tie.MeasureT-loop
-μ-loop t₀ s f calls connections sound links named heads i₀ t i = calls - i
+μ-loop t₀ s f calls connections sound heads links named i₀ t i = calls - i
 
 sound-flags-requires : tie.Need-sound-flags-requires Inv-loop μ-loop
 sound-flags-requires c κs = search needs
@@ -38,8 +38,8 @@ with-call-requires c κs =
     let v = b .before .before .before .before .before in
     let l = v .before in
     let n = l .before .before .before .before .before in
-    let f = n .before .before in
-    let z = f .before .before .before in
+    let f = n .before .before .before .before in
+    let z = f .before .before .before .before in
     let a = z .args in
     let inside = v .loop-test .taken in
     let fresh = tableOf (a .t .now) in (
@@ -50,8 +50,10 @@ with-call-requires c κs =
 
 add-i : tie.Need-add-i Inv-loop μ-loop
 add-i c =
-    let z = c .before .before .before .before .before .before .before .before .before .before .before .before .before .before .before .before .before .before in
-    omega (arith, c .before .before .before .before .before .before .before .loop-test .taken, z .pre .0 .size)
+    let v = c .before .before .before .before .before .before .before in
+    let n = v .before .before .before .before .before .before in
+    let z = n .before .before .before .before .before .before .before .before in
+    omega (arith, v .loop-test .taken, z .pre .0 .size)
 
 loop-less : tie.Need-loop-less Inv-loop μ-loop
 loop-less c = search needs
@@ -62,8 +64,8 @@ loop-again c =
     let v = b .before .before .before .before .before in
     let l = v .before in
     let n = l .before .before .before .before .before in
-    let f = n .before .before in
-    let z = f .before .before .before in
+    let f = n .before .before .before .before in
+    let z = f .before .before .before .before in
     let a = z .args in
     let s = a .s .now in
     let i = l .loop .i in
@@ -75,7 +77,8 @@ loop-again c =
 returns : tie.Need-returns Inv-loop μ-loop
 returns c =
     let l = c .before in
-    let a = l .before .before .before .before .before .before .before .before .before .before .args in
+    let n = l .before .before .before .before .before in
+    let a = n .before .before .before .before .before .before .before .before .args in
     let e : l .loop .i ≡ a .calls = omega arith in
     rw e at (l .loop .inv .1)
 
