@@ -46,8 +46,9 @@ typedef struct {
 } chaffmoor_place;
 
 /* A call; all zeros in a free slot. Its long Call ID is the first `size` bytes of `name`, the last of them not zero;
- * zeros behind them. `made`, `refreshed`, `epoch` and `identifier` are for later requests: a table rule holds them at
- * zero. */
+ * zeros behind them. `made` is 1 where the node made both IDs for a request without names, and then `epoch`, of 24 bits,
+ * and `identifier` are those of the request's MESSAGE_ID; else all three are 0. `refreshed` is for a later request: a
+ * table rule holds it at zero. */
 typedef struct {
     uint32_t endpoint;
     uint32_t sender;

@@ -5,6 +5,9 @@
 //!
 //! bench peer [quick]: the same as a ratio to the yardstick, the tuned peer, at the same tables, at tables chosen to be
 //! slow, and in reading alone.
+//!
+//! bench nameless [quick]: messages about calls that arrived without names as a ratio to the same about named ones, both
+//! of the proved program.
 
 mod checkpoints;
 mod chosen;
@@ -13,6 +16,7 @@ mod clock;
 mod inputs;
 mod largest;
 mod messages;
+mod nameless;
 mod output;
 mod parts;
 mod sizes;
@@ -23,9 +27,11 @@ mod yardstick;
 use inputs::{Calls, Pairs, ALL};
 
 fn main() {
-    match std::env::args().any(|argument| argument == "peer") {
-        true => yardstick::print(),
-        false => beside_the_second(),
+    let asked = |what: &str| std::env::args().any(|argument| argument == what);
+    match (asked("peer"), asked("nameless")) {
+        (true, _) => yardstick::print(),
+        (_, true) => nameless::print(),
+        _ => beside_the_second(),
     }
 }
 

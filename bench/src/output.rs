@@ -23,6 +23,12 @@ pub fn head_of_ratios() {
     println!("|---|---|---|---|---|---|");
 }
 
+/// Above the rows of the proved program without names beside itself with names.
+pub fn head_of_nameless() {
+    println!("| input | calls | pairs | nameless, ns | named, ns | ratio |");
+    println!("|---|---|---|---|---|---|");
+}
+
 /// Nanoseconds of both at a table of so many calls and address pairs.
 pub fn ratio(input: &str, (calls, pairs): (u32, u32), (proved, peer): (f64, f64)) {
     let ratio = proved / peer;

@@ -195,6 +195,19 @@ pub fn open(endpoint: u32, sender: u32, call: u16, name: &[u8]) -> Vec<u8> {
     request(endpoint, sender, call, name, R | C)
 }
 
+/// One without names, with these two numbers in its MESSAGE_ID (A6).
+pub fn nameless(endpoint: u32, sender: u32, (epoch, identifier): (u32, u32)) -> Vec<u8> {
+    let fields = Fields {
+        endpoint,
+        sender,
+        status: R | C,
+        epoch,
+        identifier,
+        ..Fields::default()
+    };
+    message(Header::of(NOTIFY), &fields.request(), Sum::Right)
+}
+
 /// A Notify request that closes it.
 pub fn close(endpoint: u32, sender: u32, call: u16, name: &[u8]) -> Vec<u8> {
     request(endpoint, sender, call, name, R | C | D)

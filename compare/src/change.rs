@@ -45,16 +45,17 @@ fn of_customer(customer: &mut Customer, other: &Customer, random: &mut Random) {
 }
 
 fn of_call(call: &mut Call, other: &Call, random: &mut Random) {
-    match random.below(12) {
+    match random.below(13) {
         0 => number(&mut call.endpoint, &[other.endpoint], random),
         1 => number(&mut call.sender, &[other.sender], random),
         2 => number(&mut call.id, &[other.id, 1 << 16], random),
         3 => number(&mut call.size, &[other.size, 32, 33], random),
         4 => number(random_byte(&mut call.name, random), &[], random),
         5 => number(&mut call.refreshed, &[1 << 31], random),
-        6 => number(&mut call.epoch, &[1 << 24], random),
-        7 => number(&mut call.identifier, &[1 << 31], random),
+        6 => number(&mut call.epoch, &[1 << 24, other.epoch], random),
+        7 => number(&mut call.identifier, &[1 << 31, other.identifier], random),
         8 => number(&mut call.made, &[1, 2], random),
+        9 => (call.made, call.epoch, call.identifier) = (other.made, other.epoch, other.identifier),
         _ => {
             let place = random.below(4);
             of_place(&mut call.places[place], random.pick(&other.places), random);

@@ -34,7 +34,7 @@ struct Base {
     answer: u8,
 }
 
-fn bases() -> [Base; 6] {
+fn bases() -> [Base; 7] {
     let notify = |status, (call, name): (u16, &[u8])| {
         let mut fields = fields(0, call);
         (fields.status, fields.name) = (status, name.to_vec());
@@ -48,6 +48,7 @@ fn bases() -> [Base; 6] {
     };
     [
         base("open", NOTIFY, notify(R | C, NEW), 20),
+        base("open without names", NOTIFY, notify(R | C, (0, b"")), 20),
         base("close", NOTIFY, notify(R | C | D, OLD), 22),
         base("Path", PATH, fields(2, OLD.0).connection(), 23),
         base("Path of six objects", PATH, fields(2, OLD.0).request(), 23),

@@ -2,9 +2,11 @@
 
 use crate::both::Done;
 use crate::build::D;
+use crate::coverage_nameless;
 use crate::form::{self, long_id};
 use crate::layout::SLOTS;
 use crate::ledger::Seen;
+use crate::made;
 use crate::rosters::Shape;
 use crate::source::Made;
 use crate::tables;
@@ -78,7 +80,7 @@ impl Shares {
 }
 
 /// The first slot that form 1 does not have.
-const FAR: usize = form::total(1);
+pub(crate) const FAR: usize = form::total(1);
 
 /// Answers about a call in a slot that form 1 does not have.
 const FAR_SLOTS: [(u8, &str); 12] = [
@@ -100,7 +102,9 @@ const FAR_SLOTS: [(u8, &str); 12] = [
 pub fn situations() -> Vec<&'static str> {
     let shares = SHARES.iter().flat_map(Shares::all);
     let far = FAR_SLOTS.iter().map(|line| line.1);
-    shares.chain(far).chain(OTHERS.iter().copied()).collect()
+    let others = OTHERS.iter().chain(coverage_nameless::SITUATIONS).copied();
+    let nearly = made::NEARLY.iter().map(|line| line.0);
+    shares.chain(far).chain(others).chain(nearly).collect()
 }
 
 const OTHERS: &[&str] = &[
@@ -157,9 +161,17 @@ pub struct Step<'a> {
     pub seen: Option<(Seen, usize)>,
 }
 
+impl Step<'_> {
+    /// The slot of the call that an answer 20 opened.
+    pub(crate) fn new_slot(&self) -> usize {
+        let is_new = |&slot: &usize| tables::is_used(&self.done.first, slot) && !tables::is_used(self.before, slot);
+        (0..SLOTS).find(is_new).expect("an opened call has a slot")
+    }
+}
+
 pub fn note(step: &Step, tally: &mut Tally) {
-    if let Some((seen, calls)) = step.seen {
-        setup(step, seen, calls, tally);
+    if let Some((seen, calls)) = &step.seen {
+        setup(step, seen, *calls, tally);
         if let Some((opened, now)) = seen.sizes {
             padding(step.done.answer, opened, now, tally);
         }
@@ -167,6 +179,7 @@ pub fn note(step: &Step, tally: &mut Tally) {
     limits(step, tally);
     if step.made.whole {
         far_slot(step, tally);
+        coverage_nameless::note(step, tally);
         match step.done.answer {
             20 => opened(step, tally),
             13 if step.made.fields.call != 0 => unnamed(step, tally),
@@ -181,7 +194,7 @@ pub fn note(step: &Step, tally: &mut Tally) {
 }
 
 /// Setups of no fault of form: how the shares stood.
-fn setup(step: &Step, seen: Seen, calls: usize, tally: &mut Tally) {
+fn setup(step: &Step, seen: &Seen, calls: usize, tally: &mut Tally) {
     let Some(due) = seen.due else {
         return;
     };
@@ -315,7 +328,7 @@ fn limits(step: &Step, tally: &mut Tally) {
     if step.done.length > 0 && step.done.reply()[2..4] == [0xff; 2] {
         tally.situation("checksum FFFF for zero, sent");
     }
-    if step.made.whole && matches!(answer, 20..=22 | 30..=34) {
+    if step.made.whole && matches!(answer, 20..=22 | 30..=34) && step.made.fields.call != 0 {
         let name = &step.made.fields.name;
         tally.padding(name.len() - long_id(name).len());
     }
@@ -342,7 +355,7 @@ fn opened(step: &Step, tally: &mut Tally) {
         (32, _) => tally.situation("name padded to 32 bytes opened"),
         _ => {}
     }
-    if zero_tells_apart(step) {
+    if !name.is_empty() && zero_tells_apart(step) {
         tally.situation("20 next to a name that a zero byte inside tells apart");
     }
     if tables::in_use(step.before, (pair.1, pair.0), fields.call, name) == (true, true) {
@@ -351,8 +364,7 @@ fn opened(step: &Step, tally: &mut Tally) {
     if tables::calls(step.before).any(|call| call.id == fields.call.into() && tables::name(call) == name) {
         tally.situation("20 with the IDs of a call of another pair");
     }
-    let is_new = |&slot: &usize| tables::is_used(&step.done.first, slot) && !tables::is_used(step.before, slot);
-    let slot = (0..SLOTS).find(is_new).expect("an opened call has a slot");
+    let slot = step.new_slot();
     let below = tables::used(step.before).last().is_some_and(|&last| last > slot);
     if below {
         tally.situation("20 into a slot below a used one");

@@ -122,7 +122,7 @@ fn lengthen(objects: &mut Vec<Vec<u8>>, random: &mut Random) {
 /// One to three faults in what a Notify says, or a sender that is not listed: answers 11 to 13, and their order.
 pub fn add_faults(fields: &mut Fields, values: &Values, random: &mut Random) {
     for _ in 0..*random.pick(&[1, 1, 1, 2, 3]) {
-        match random.below(11) {
+        match random.below(12) {
             0 => fields.status &= !R,
             1 => fields.status &= !C,
             2 => fields.code = 1 << random.below(8),
@@ -141,6 +141,11 @@ pub fn add_faults(fields: &mut Fields, values: &Values, random: &mut Random) {
             9 => {
                 fields.name.truncate(32);
                 fields.name.resize(33, 0);
+            }
+            // Neither of the two IDs: 13 for a close only (A6).
+            10 => {
+                fields.call = 0;
+                fields.name.clear();
             }
             _ => fields.sender = *random.pick(&values.unlisted),
         }

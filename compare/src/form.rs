@@ -1,5 +1,6 @@
-//! The ledger's own reader (01, "Every answer", and 02's A1): the tests for the answers 2 to 13, on the message's bytes, the
-//! buffer's length and the roster's addresses; and a roster's answer. It is a third reading, used by neither program.
+//! The ledger's own reader (01, "Every answer", and 02's A1 and A6): the tests for the answers 2 to 13, on the message's
+//! bytes, the buffer's length and the roster's addresses; and a roster's answer. It is a third reading, used by neither
+//! program.
 
 /// What a message is to the ledger.
 #[derive(Debug, PartialEq, Eq)]
@@ -12,7 +13,7 @@ pub enum Form<'a> {
     Connection,
 }
 
-/// A Notify's four, and whether D is set.
+/// A Notify's four, its MESSAGE_ID's two numbers, and whether D is set.
 #[derive(Debug, PartialEq, Eq)]
 pub struct Request<'a> {
     pub endpoint: u32,
@@ -22,7 +23,16 @@ pub struct Request<'a> {
     pub long: &'a [u8],
     /// Name Length as received, counted padding included.
     pub size: usize,
+    /// Epoch and identifier.
+    pub numbers: (u32, u32),
     pub closes: bool,
+}
+
+impl Request<'_> {
+    /// A6: an open with neither of the two IDs.
+    pub fn is_nameless(&self) -> bool {
+        self.short == 0
+    }
 }
 
 /// The objects of 01's table, in its order, MESSAGE_ID_ACK left out: class, C-Type.
@@ -30,6 +40,7 @@ pub const OBJECTS: [(u8, u8); 6] = [(1, 7), (6, 1), (11, 7), (23, 1), (196, 1), 
 const SESSION: usize = 0;
 const ERROR_SPEC: usize = 1;
 const SENDER_TEMPLATE: usize = 2;
+const MESSAGE_ID: usize = 3;
 const ADMIN_STATUS: usize = 4;
 const SESSION_ATTRIBUTE: usize = 5;
 
@@ -145,15 +156,18 @@ fn request<'a>(bodies: &[&'a [u8]; 6], sender: u32) -> Result<Request<'a>, u8> {
     let (session, attribute) = (bodies[SESSION], bodies[SESSION_ATTRIBUTE]);
     let (short, size) = (half(session, 4), usize::from(attribute[3]));
     let long = long_id(&attribute[4..4 + size]);
-    if short == 0 || size > 32 || long.is_empty() {
+    let is_nameless = d == 0 && short == 0 && size == 0;
+    if !is_nameless && (short == 0 || size > 32 || long.is_empty()) {
         return Err(13);
     }
+    let message_id = bodies[MESSAGE_ID];
     Ok(Request {
         endpoint: word(session, 0),
         sender,
         short,
         long,
         size,
+        numbers: (word(message_id, 0) & 0x00ff_ffff, word(message_id, 4)),
         closes: d == 1,
     })
 }

@@ -1,5 +1,5 @@
 //! A table at all its limits, reached by messages: 64 calls of eight customers, or 200 in form 2, four connections under
-//! each call and four of Call ID 0 with each customer.
+//! each call and four of Call ID 0 with each customer. Every third call came without names.
 
 use crate::both;
 use crate::build::{self, Connection};
@@ -53,7 +53,12 @@ fn fill(tables: &mut Tables, sender: u32, calls: u16, random: &mut Random) -> Re
             let long = [b'n'; 32];
             let short = [call as u8];
             let name = if call == 1 { &long[..] } else { &short };
-            send(tables, &build::open(ENDPOINT, sender, call, name), 20, random)?;
+            // All lower numbers are in use, so that a nameless one gets this one.
+            let open = match call % 3 {
+                0 => build::nameless(ENDPOINT, sender, (9, call.into())),
+                _ => build::open(ENDPOINT, sender, call, name),
+            };
+            send(tables, &open, 20, random)?;
         }
         for lsp in 0..4 {
             let connection = Connection {

@@ -3,6 +3,7 @@
 
 use crate::build::{Connection, Fields, C, D, NOTIFY, PATH, PATH_TEAR, R};
 use crate::form;
+use crate::nameless;
 use crate::random::Random;
 use crate::tables;
 use crate::values::Values;
@@ -36,6 +37,19 @@ pub enum Intent {
     TearHeld,
     TearBeside,
     TearAny,
+    // Without names, or about calls that came so (A6).
+    NamelessNew,
+    NamelessAgain,
+    NamelessElsewhere,
+    NamelessBeside,
+    NamelessZeros,
+    OpenMadeName,
+    OpenNearlyMade,
+    OpenLowId,
+    OpenNumbers,
+    OpenMadeAgain,
+    CloseMade,
+    HalfNamed,
 }
 
 use Intent::*;
@@ -52,6 +66,18 @@ pub const FILL: Mode = &[
     (4, OpenElsewhere),
     (2, OpenSwapped),
     (3, OpenZeroInside),
+    (24, NamelessNew),
+    (5, NamelessAgain),
+    (4, NamelessElsewhere),
+    (4, NamelessBeside),
+    (4, NamelessZeros),
+    (7, OpenMadeName),
+    (8, OpenNearlyMade),
+    (5, OpenLowId),
+    (3, OpenNumbers),
+    (2, OpenMadeAgain),
+    (2, CloseMade),
+    (2, HalfNamed),
     (4, CloseIdle),
     (8, PathNew),
     (4, PathStandalone),
@@ -68,6 +94,27 @@ pub const FILL_SOON: Mode = &[
     (1, PathStandalone),
 ];
 
+/// The same, nearly all without names.
+pub const FILL_NAMELESS: Mode = &[
+    (85, NamelessNew),
+    (5, OpenNew),
+    (6, NamelessAgain),
+    (3, NamelessBeside),
+    (3, OpenMadeName),
+    (2, OpenLowId),
+    (1, CloseMade),
+    (4, PathNew),
+];
+
+/// A pair with as many calls as it can have: made calls come and go, and the others stay.
+pub const CROWD: Mode = &[
+    (6, NamelessNew),
+    (10, NamelessAgain),
+    (2, OpenMadeAgain),
+    (4, CloseMade),
+    (1, PathNew),
+];
+
 pub const CHURN: Mode = &[
     (14, OpenNew),
     (8, OpenAgain),
@@ -78,6 +125,18 @@ pub const CHURN: Mode = &[
     (4, OpenSwapped),
     (4, OpenZeroInside),
     (4, OpenAny),
+    (10, NamelessNew),
+    (6, NamelessAgain),
+    (4, NamelessElsewhere),
+    (4, NamelessBeside),
+    (4, NamelessZeros),
+    (4, OpenMadeName),
+    (8, OpenNearlyMade),
+    (3, OpenLowId),
+    (4, OpenNumbers),
+    (4, OpenMadeAgain),
+    (6, CloseMade),
+    (4, HalfNamed),
     (8, CloseIdle),
     (3, CloseOpen),
     (5, CloseLit),
@@ -100,6 +159,9 @@ pub const CHURN: Mode = &[
 pub const CONNECT: Mode = &[
     (6, OpenNew),
     (2, OpenAgain),
+    (3, NamelessNew),
+    (3, NamelessAgain),
+    (3, CloseMade),
     (5, CloseLit),
     (30, PathNew),
     (8, PathHeld),
@@ -117,6 +179,9 @@ pub const CONNECT: Mode = &[
 pub const DRAIN: Mode = &[
     (4, OpenNew),
     (4, OpenAgain),
+    (4, NamelessNew),
+    (4, NamelessAgain),
+    (4, CloseMade),
     (30, CloseIdle),
     (12, CloseOpen),
     (4, CloseCrossed),
@@ -133,6 +198,14 @@ pub const MODES: [(usize, Mode); 4] = [(4, FILL), (4, CHURN), (3, CONNECT), (1, 
 pub fn fields(intent: Intent, values: &Values, table: &Table, random: &mut Random) -> (u8, Fields) {
     let any = any_fields(values, random);
     match intent {
+        NamelessNew | NamelessAgain | NamelessElsewhere | NamelessBeside | NamelessZeros | HalfNamed => {
+            (NOTIFY, nameless::asking(intent, any, values, table, random))
+        }
+        OpenMadeName | OpenNearlyMade | OpenLowId | OpenNumbers | OpenMadeAgain | CloseMade => {
+            let mut fields = nameless::asking(intent, any, values, table, random);
+            pad(&mut fields.name, random);
+            (NOTIFY, fields)
+        }
         CloseIdle | CloseOpen | CloseLit | CloseCrossed | CloseElsewhere | CloseAny => {
             let mut fields = closing(intent, any, table, random);
             fields.status |= D;
@@ -152,8 +225,9 @@ pub fn fields(intent: Intent, values: &Values, table: &Table, random: &mut Rando
 }
 
 /// Padding that is counted in Name Length (A1), two times out of five: up to the next word, to the largest name, or any.
+/// What is empty stays so.
 fn pad(name: &mut Vec<u8>, random: &mut Random) {
-    if random.chance(3, 5) || name.len() >= 32 {
+    if random.chance(3, 5) || name.len() >= 32 || name.is_empty() {
         return;
     }
     let (more, any) = (name.len() + 1, random.between(name.len() + 1, 32));
@@ -161,8 +235,11 @@ fn pad(name: &mut Vec<u8>, random: &mut Random) {
     name.resize(size, 0);
 }
 
-/// Fields drawn from the stream's few.
+/// Fields drawn from the stream's few; a MESSAGE_ID's numbers half the time from all there are.
 fn any_fields(values: &Values, random: &mut Random) -> Fields {
+    let numbers = (random.word() >> 8, random.word());
+    let few = *random.pick(&values.requests);
+    let (epoch, identifier) = *random.pick(&[numbers, few]);
     Fields {
         endpoint: *random.pick(&values.endpoints),
         call: *random.pick(&values.ids),
@@ -171,8 +248,8 @@ fn any_fields(values: &Values, random: &mut Random) -> Fields {
         sender: *random.pick(&values.senders),
         lsp: *random.pick(&values.lsps),
         name: random.pick(&values.names).clone(),
-        epoch: random.word() >> 8,
-        identifier: random.word(),
+        epoch,
+        identifier,
         status: R | C,
         ..Fields::default()
     }
@@ -348,12 +425,12 @@ fn crowd(fields: &mut Fields, values: &Values, table: &Table, random: &mut Rando
     }
 }
 
-fn take_pair(fields: &mut Fields, call: &Call) {
+pub fn take_pair(fields: &mut Fields, call: &Call) {
     fields.endpoint = call.endpoint;
     fields.sender = call.sender;
 }
 
-fn take_ids(fields: &mut Fields, call: &Call) {
+pub fn take_ids(fields: &mut Fields, call: &Call) {
     fields.call = call.id as u16;
     fields.name = tables::name(call).to_vec();
 }

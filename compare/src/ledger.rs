@@ -1,7 +1,9 @@
 //! The ledger behind demand 3 (01), a third time. It is fed the roster's bytes and each message with its answer and
-//! its buffer's length, never the table, and says which sentence of demand 3 does not hold.
+//! its buffer's length, never the table, and says which sentence of demand 3 does not hold. The IDs of a call that came
+//! without names it makes from its own entries (A6).
 
 use crate::form::{self, Form, Request};
+use crate::made::{self, Ids};
 
 struct Customer {
     address: u32,
@@ -16,8 +18,19 @@ struct Entry {
     sender: u32,
     short: u16,
     long: Vec<u8>,
-    /// The Name Length that it was opened with: for the situations only, nothing is due by it.
+    /// The two numbers of the nameless request that made it.
+    made_by: Option<(u32, u32)>,
+    /// For the situations only, nothing is due by them: the Name Length and the two numbers that it was opened with.
     size: usize,
+    numbers: (u32, u32),
+}
+
+/// A call that a checkpoint's reading restored.
+pub struct Restored {
+    pub endpoint: u32,
+    pub sender: u32,
+    pub ids: Ids,
+    pub made_by: Option<(u32, u32)>,
 }
 
 pub struct Ledger {
@@ -26,10 +39,12 @@ pub struct Ledger {
     customers: Vec<Customer>,
     addresses: Vec<u32>,
     entries: Vec<Entry>,
+    /// Made calls that were closed, by pair and numbers: for the situations only.
+    gone: Vec<(u32, u32, (u32, u32))>,
 }
 
 /// What the ledger saw of one message.
-#[derive(Clone, Copy, Debug, PartialEq, Eq)]
+#[derive(Clone, Debug, PartialEq, Eq)]
 pub struct Seen {
     /// A setup of no fault of form: the answer that was due.
     pub due: Option<u8>,
@@ -41,6 +56,14 @@ pub struct Seen {
     pub no_room: bool,
     /// A Notify of no fault of form whose long ID the pair has open: the Name Lengths of that open and of this one.
     pub sizes: Option<(usize, usize)>,
+    /// A nameless setup: the IDs that its reply carries. They are its call's, and empty where 34 is due.
+    pub ids: Option<Ids>,
+    /// A nameless setup with the two numbers that a call of the pair was opened with by name.
+    pub named_before: bool,
+    /// A nameless setup whose call was closed.
+    pub closed_before: bool,
+    /// A nameless setup whose IDs pass over a made name that was opened by name with padding.
+    pub past_padding: bool,
 }
 
 const NOTHING: Seen = Seen {
@@ -49,6 +72,10 @@ const NOTHING: Seen = Seen {
     at_limit: false,
     no_room: false,
     sizes: None,
+    ids: None,
+    named_before: false,
+    closed_before: false,
+    past_padding: false,
 };
 
 impl Customer {
@@ -65,19 +92,54 @@ impl Customer {
 }
 
 impl Entry {
-    fn of(request: &Request) -> Entry {
+    /// The entry of a setup that names its call.
+    fn named(request: &Request) -> Entry {
         Entry {
             endpoint: request.endpoint,
             sender: request.sender,
             short: request.short,
             long: request.long.to_vec(),
+            made_by: None,
             size: request.size,
+            numbers: request.numbers,
         }
     }
 
-    /// The call that the request names.
+    /// The entry of a nameless one, whose IDs were made.
+    fn made(request: &Request, ids: Ids) -> Entry {
+        Entry {
+            size: ids.long.len(),
+            short: ids.short,
+            long: ids.long,
+            made_by: Some(request.numbers),
+            ..Entry::named(request)
+        }
+    }
+
+    fn restored(call: Restored) -> Entry {
+        Entry {
+            endpoint: call.endpoint,
+            sender: call.sender,
+            size: call.ids.long.len(),
+            short: call.ids.short,
+            long: call.ids.long,
+            made_by: call.made_by,
+            numbers: call.made_by.unwrap_or_default(),
+        }
+    }
+
+    /// The call that the request names; for a nameless one, the call that it made.
     fn is_call(&self, request: &Request) -> bool {
-        self.of_pair(request) && self.short == request.short && self.long == request.long
+        let is_it = match request.is_nameless() {
+            true => self.made_by == Some(request.numbers),
+            false => self.short == request.short && self.long == request.long,
+        };
+        self.of_pair(request) && is_it
+    }
+
+    fn ids(&self) -> Ids {
+        let (short, long) = (self.short, self.long.clone());
+        Ids { short, long }
     }
 
     fn of_pair(&self, request: &Request) -> bool {
@@ -95,7 +157,19 @@ impl Ledger {
             addresses: customers.iter().map(|customer| customer.address).collect(),
             customers,
             entries: Vec::new(),
+            gone: Vec::new(),
         }
+    }
+
+    /// The ledger of a checkpoint's reading under an accepted roster: what was restored counts as opened (A13).
+    pub fn restored(roster: &[u8], calls: impl IntoIterator<Item = Restored>) -> Ledger {
+        let mut ledger = Ledger::new(roster);
+        ledger.entries = calls.into_iter().map(Entry::restored).collect();
+        for customer in &mut ledger.customers {
+            let own = ledger.entries.iter().filter(|entry| entry.sender == customer.address);
+            customer.opened = own.count();
+        }
+        ledger
     }
 
     /// Takes in a message and its answer, and checks what demand 3 says of them.
@@ -108,7 +182,7 @@ impl Ledger {
         if let Form::Notify(request) = &form {
             seen.sizes = self.sizes(request);
         }
-        self.book(&form, answer)?;
+        self.book(&form, answer, seen.ids.clone())?;
         self.check_counts()?;
         Ok(seen)
     }
@@ -143,6 +217,7 @@ impl Ledger {
         let at_limit = count == customer.limit;
         let no_room = self.taken() == self.total;
         let mut of_pair = self.entries.iter().filter(|entry| entry.of_pair(setup));
+        // Neither ID of a nameless setup counts as in use: no entry's is empty.
         let due = if of_pair.clone().any(|entry| entry.is_call(setup)) {
             21
         } else if of_pair.clone().any(|entry| entry.long == setup.long) {
@@ -159,12 +234,50 @@ impl Ledger {
             below,
             at_limit,
             no_room,
-            sizes: None,
+            ..self.nameless(setup, due)
         }
     }
 
-    /// 20 adds an entry, 22 takes one out.
-    fn book(&mut self, form: &Form, answer: u8) -> Result<(), String> {
+    /// What is to be seen of a nameless setup only.
+    fn nameless(&self, setup: &Request, due: u8) -> Seen {
+        if !setup.is_nameless() {
+            return NOTHING;
+        }
+        let mut of_pair = self.entries.iter().filter(|entry| entry.of_pair(setup));
+        let by_name = |entry: &Entry| entry.made_by.is_none() && entry.numbers == setup.numbers;
+        let gone = (setup.endpoint, setup.sender, setup.numbers);
+        let ids = match due {
+            21 => of_pair.clone().find(|entry| entry.is_call(setup)).map(Entry::ids),
+            20 => Some(self.make(setup)),
+            _ => Some(Ids::default()),
+        };
+        let below = |number: u16| ids.as_ref().is_some_and(|ids| number < ids.short);
+        let is_padded = |entry: &Entry| {
+            let number = made::number_of(entry.endpoint, entry.sender, &entry.long);
+            entry.size > entry.long.len() && number.is_some_and(below)
+        };
+        Seen {
+            past_padding: of_pair.clone().any(is_padded),
+            named_before: of_pair.any(by_name),
+            closed_before: self.gone.contains(&gone),
+            ids,
+            ..NOTHING
+        }
+    }
+
+    /// The least short ID from 1 such that neither it nor the name made of it is in use by the pair.
+    fn make(&self, setup: &Request) -> Ids {
+        let of_pair: Vec<&Entry> = self.entries.iter().filter(|entry| entry.of_pair(setup)).collect();
+        let ids = (1..).map(|short| Ids {
+            short,
+            long: made::name(setup.endpoint, setup.sender, short),
+        });
+        let is_unused = |ids: &Ids| of_pair.iter().all(|one| one.short != ids.short && one.long != ids.long);
+        ids.into_iter().find(is_unused).expect("few are in use")
+    }
+
+    /// 20 adds an entry, with these IDs if they were made; 22 takes one out.
+    fn book(&mut self, form: &Form, answer: u8, ids: Option<Ids>) -> Result<(), String> {
         if answer != 20 && answer != 22 {
             return Ok(());
         }
@@ -175,9 +288,16 @@ impl Ledger {
         let customer = customer.ok_or("a call of a sender that is not listed")?;
         if answer == 20 {
             customer.opened += 1;
-            self.entries.push(Entry::of(request));
+            self.entries.push(match ids {
+                Some(ids) => Entry::made(request, ids),
+                None => Entry::named(request),
+            });
         } else {
             customer.closed += 1;
+            let closed = self.entries.iter().find(|entry| entry.is_call(request));
+            let numbers = closed.and_then(|entry| entry.made_by);
+            self.gone
+                .extend(numbers.map(|numbers| (request.endpoint, request.sender, numbers)));
             self.entries.retain(|entry| !entry.is_call(request));
         }
         Ok(())
@@ -218,7 +338,7 @@ impl Ledger {
 #[cfg(test)]
 mod tests {
     use super::*;
-    use crate::build::{close, open, path, Connection, Record, Roster};
+    use crate::build::{close, nameless, open, path, Connection, Record, Roster};
 
     const X: u32 = 0x0a00_0001;
     const Y: u32 = 0x0a00_0003;
@@ -329,6 +449,72 @@ mod tests {
         let seen = ledger.feed(&open(9, X, 1, b"a"), 128, 21);
         assert_eq!(seen.map(|seen| seen.sizes), Ok(Some((3, 1))));
         assert!(feeds(&mut ledger, &close(9, X, 1, b"a\0"), 22) && ledger.calls() == 0);
+    }
+
+    #[test]
+    fn setups_without_names() {
+        let mut ledger = two_of(2, 100, 200);
+        let mut made = |message: &[u8], answer: u8| {
+            let seen = ledger.feed(message, 128, answer).expect("what is due");
+            seen.ids.map(|ids| (ids.short, ids.long))
+        };
+        let one = b"0a000003000000090001".to_vec();
+        assert_eq!(made(&nameless(9, Y, (3, 4)), 20), Some((1, one.clone())));
+        assert_eq!(made(&nameless(9, Y, (3, 4)), 21), Some((1, one.clone())));
+        assert_eq!(made(&open(9, Y, 5, b"0a000003000000090002"), 20), None);
+        assert_eq!(made(&open(9, Y, 3, b"three"), 20), None);
+        assert_eq!(made(&nameless(9, Y, (4, 3)), 20).map(|ids| ids.0), Some(4));
+        assert_eq!(made(&nameless(9, X, (3, 4)), 20).map(|ids| ids.0), Some(1));
+        assert_eq!(made(&nameless(8, Y, (3, 4)), 20).map(|ids| ids.0), Some(1));
+        assert_eq!(made(&open(9, Y, 1, &one), 21), None);
+        assert_eq!(made(&close(9, Y, 1, &one), 22), None);
+        assert_eq!(made(&nameless(9, Y, (3, 4)), 20).map(|ids| ids.0), Some(1));
+        assert_eq!(made(&close(9, Y, 0, b""), 13), None);
+        assert_eq!(made(&open(9, Y, 0, &[0; 4]), 13), None);
+    }
+
+    #[test]
+    fn a_nameless_setup_is_never_30_or_31() {
+        for answer in [13, 21, 30, 31, 34] {
+            assert!(!feeds(&mut two(), &nameless(9, X, (0, 0)), answer));
+        }
+        let mut ledger = two();
+        assert!(feeds(&mut ledger, &open(9, X, 1, b"a"), 20));
+        assert!(feeds(&mut ledger, &nameless(9, X, (0, 0)), 20));
+        assert!(feeds(&mut ledger, &nameless(9, X, (0, 1)), 34));
+        assert!(feeds(&mut ledger, &nameless(9, X, (0, 0)), 21));
+    }
+
+    #[test]
+    fn restored_calls_count_as_opened() {
+        let roster = Roster {
+            form: 1,
+            address: 0x0a00_0002,
+            epoch: 7,
+            records: vec![Record {
+                address: X,
+                guarantee: 0,
+                limit: 2,
+                spare: 0,
+            }],
+        };
+        let call = |short, long: &[u8], made_by| Restored {
+            endpoint: 9,
+            sender: X,
+            ids: Ids {
+                short,
+                long: long.to_vec(),
+            },
+            made_by,
+        };
+        let calls = [call(7, b"n", Some((1, 2))), call(1, b"m", None)];
+        let mut ledger = Ledger::restored(&roster.bytes(), calls);
+        let seen = ledger.feed(&nameless(9, X, (1, 2)), 128, 21).expect("what is due");
+        let long = b"n".to_vec();
+        assert_eq!(seen.ids, Some(Ids { short: 7, long }));
+        assert!(feeds(&mut ledger, &nameless(9, X, (0, 0)), 34));
+        assert!(feeds(&mut ledger, &close(9, X, 7, b"n"), 22));
+        assert!(feeds(&mut ledger, &nameless(9, X, (1, 2)), 20));
     }
 
     #[test]

@@ -5,11 +5,12 @@ use crate::breaks::tools::*;
 use crate::breaks::Break;
 use crate::form;
 use crate::layout::SLOTS;
+use crate::near_made;
 use crate::random::Random;
 use crate::tables::{self, EMPTY, FREE_CALL};
 use second::table::{Place, Table};
 
-pub const NEAR_MISSES: &[(&str, Break)] = &[
+const NEAR_MISSES: &[(&str, Break)] = &[
     ("same IDs at another end point", ids_elsewhere),
     ("same IDs of another sender", ids_of_another),
     ("same IDs with the addresses swapped", ids_swapped),
@@ -49,6 +50,11 @@ pub const NEAR_MISSES: &[(&str, Break)] = &[
     ("form 2: call in slot 199", last_slot),
 ];
 
+/// Every near miss, with its name.
+pub fn all() -> impl Iterator<Item = &'static (&'static str, Break)> {
+    NEAR_MISSES.iter().chain(near_made::NEAR_MISSES)
+}
+
 /// The second call gets the first one's IDs, at an end point that no call has.
 fn ids_elsewhere(table: &mut Table, random: &mut Random) -> bool {
     let Some((one, other)) = two_of_a_sender(table, random) else {
@@ -79,7 +85,7 @@ fn ids_of_another(table: &mut Table, random: &mut Random) -> bool {
 }
 
 /// Two calls alone, each one's end point the other's sender; the same connection under both.
-fn ids_swapped(table: &mut Table, random: &mut Random) -> bool {
+pub(crate) fn ids_swapped(table: &mut Table, random: &mut Random) -> bool {
     let Some((one, other)) = two_of_two_senders(table, random) else {
         return false;
     };

@@ -5,7 +5,7 @@ use crate::layout::{
 };
 use crate::random::Random;
 use crate::tables::{is_taken, is_used, total, used};
-use second::table::{Place, Table};
+use second::table::{Call, Place, Table};
 
 /// What every word is set to, besides each of its bits turned over.
 pub const VALUES: [u32; 27] = [
@@ -52,9 +52,11 @@ pub const REFUSED: &[&str] = &[
     "word: guarantee above the limit",
     "word: limit 0 or above the total",
     "word: call's last refresh",
-    "word: call's request epoch",
-    "word: call's request identifier",
-    "word: call's made mark",
+    "word: unmarked call's request epoch",
+    "word: unmarked call's request identifier",
+    "word: made call's request epoch above 24 bits",
+    "word: call's made mark above 1",
+    "word: call's made mark 0 over numbers",
     "word: call's short ID 0 or above 65,535",
     "word: call's name size 0 or above 32",
     "word: call's name past its size",
@@ -217,11 +219,9 @@ fn due_of_call(table: &Table, slot: usize, of: OfCall, value: u32) -> Due {
     let call = &table.calls[slot];
     match of {
         OfCall::EndPoint | OfCall::Sender => Open,
-        // They are zero, and the value is another.
+        // It is zero, and the value is another.
         OfCall::Refreshed => Refused("word: call's last refresh"),
-        OfCall::Epoch => Refused("word: call's request epoch"),
-        OfCall::Identifier => Refused("word: call's request identifier"),
-        OfCall::Made => Refused("word: call's made mark"),
+        OfCall::Epoch | OfCall::Identifier | OfCall::Made => due_of_request(call, of, value),
         OfCall::Id => when(value == 0 || value > 65_535, "word: call's short ID 0 or above 65,535"),
         OfCall::Size if value == 0 || value > 32 => Refused("word: call's name size 0 or above 32"),
         OfCall::Size if value > call.size => Refused("word: call's name size up to a zero byte"),
@@ -245,6 +245,21 @@ fn due_of_call(table: &Table, slot: usize, of: OfCall, value: u32) -> Due {
             ];
             due_of_place(&call.places[n], 0, of, value, reasons)
         }
+    }
+}
+
+/// A6: the mark and the numbers of a request. Other calls of the pair decide the rest.
+fn due_of_request(call: &Call, of: OfCall, value: u32) -> Due {
+    match (of, call.made) {
+        (OfCall::Epoch, 0) => Refused("word: unmarked call's request epoch"),
+        (OfCall::Identifier, 0) => Refused("word: unmarked call's request identifier"),
+        (OfCall::Epoch, _) => when(value >= 1 << 24, "word: made call's request epoch above 24 bits"),
+        (OfCall::Made, _) if value > 1 => Refused("word: call's made mark above 1"),
+        (OfCall::Made, 1) => when(
+            (call.epoch, call.identifier) != (0, 0),
+            "word: call's made mark 0 over numbers",
+        ),
+        _ => Open,
     }
 }
 
@@ -304,10 +319,12 @@ mod tests {
             extended: 1,
             lsp: 1,
         };
-        table.calls[0].size = 5;
-        table.calls[0].name[4] = 1;
+        for call in &mut table.calls[..2] {
+            (call.size, call.name[4]) = (5, 1);
+        }
         table.calls[0].places[2] = table.customers[0].places[1];
-        table.occupied[0] = 1;
+        (table.calls[1].made, table.calls[1].epoch) = (1, 7);
+        table.occupied[0] = 3;
         let mut seen: Vec<&str> = Vec::new();
         for changed in every_word(&table, 0).chain(every_word(&EMPTY, 0)) {
             if let Refused(reason) | Kept(reason) = changed.due {

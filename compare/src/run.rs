@@ -7,7 +7,7 @@ use crate::classes;
 use crate::coverage::situations;
 use crate::form;
 use crate::full::Full;
-use crate::near::NEAR_MISSES;
+use crate::near;
 use crate::random::Random;
 use crate::rosters::MAKERS;
 use crate::stream::Stream;
@@ -22,14 +22,19 @@ const ROSTERS: usize = 26_000;
 /// Numbers of the streams whose tables are changed word by word.
 const WORD_STREAMS: u64 = 1 << 32;
 
+/// Numbers of the crowds, and how many there are, by turns of both forms and of each kind.
+const CROWD_STREAMS: u64 = 2 << 32;
+const CROWDS: u64 = 360;
+
 /// How many full tables, by turns of form 1 and 2, are broken in every way.
 const FULL_TABLES: usize = 120;
 
 pub fn all(seed: u64, messages: u64, captured: Option<&str>) -> Result<Tally, String> {
-    let mut tally = Tally::new(&situations(), &names(breaks::all()), &names(NEAR_MISSES.iter()));
+    let mut tally = Tally::new(&situations(), &names(breaks::all()), &names(near::all()));
     let mut random = Random::of_part(seed, u64::MAX);
     rosters(seed, &mut random, &mut tally)?;
     streams(seed, messages, &mut tally)?;
+    crowds(seed, &mut tally)?;
     classes::run(0..=u8::MAX, &mut Random::of_part(seed, u64::MAX - 1), &mut tally)
         .map_err(|what| format!("seed {seed}, {what}"))?;
     full_tables(seed, &mut random, &mut tally)?;
@@ -130,6 +135,15 @@ fn streams(seed: u64, messages: u64, tally: &mut Tally) -> Result<(), String> {
     Ok(())
 }
 
+/// Pairs with as many calls as they can have (A6).
+fn crowds(seed: u64, tally: &mut Tally) -> Result<(), String> {
+    for number in 0..CROWDS {
+        let mut stream = Stream::crowded(seed, CROWD_STREAMS + number, tally)?;
+        stream.run(Stream::CROWDED, tally)?;
+    }
+    Ok(())
+}
+
 #[cfg(test)]
 mod tests {
     use super::*;
@@ -137,7 +151,7 @@ mod tests {
     /// With the second program in the first one's place it is the yardstick that is tried.
     #[test]
     fn a_short_run() {
-        let mut tally = Tally::new(&situations(), &names(breaks::all()), &names(NEAR_MISSES.iter()));
+        let mut tally = Tally::new(&situations(), &names(breaks::all()), &names(near::all()));
         streams(1, 4000, &mut tally).unwrap();
         assert!(tally.broken_total() > 500 && tally.word_total() > 500);
     }

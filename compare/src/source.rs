@@ -11,11 +11,31 @@ use crate::values::Values;
 use second::table::Table;
 
 /// A message and what it was made of.
+#[derive(Clone)]
 pub struct Made {
     pub bytes: Vec<u8>,
     pub fields: Fields,
     /// Nothing was damaged, and the bytes are not random ones: the fields are what the bytes say.
     pub whole: bool,
+    /// It is the message before it once more.
+    pub again: bool,
+}
+
+/// A nameless request of these fields' pair (A6), with any numbers.
+pub fn nameless(fields: &Fields, random: &mut Random) -> Made {
+    let mut fields = Fields {
+        call: 0,
+        epoch: random.word() >> 8,
+        identifier: random.word(),
+        ..fields.clone()
+    };
+    fields.name.clear();
+    Made {
+        bytes: encode::message(NOTIFY, fields.clone(), random),
+        fields,
+        whole: true,
+        again: false,
+    }
 }
 
 /// A message for the table as it stands. `trouble`: how many of a hundred are faulty or damaged.
@@ -37,6 +57,7 @@ pub fn message(
             bytes,
             fields,
             whole: false,
+            again: false,
         };
     }
     let (fault, damage) = *random.pick(&[(true, false), (false, true), (true, true)]);
@@ -55,6 +76,7 @@ pub fn message(
         bytes,
         fields,
         whole: !damaged,
+        again: false,
     }
 }
 
@@ -69,7 +91,14 @@ fn force_checksums(bytes: &mut [u8], table: &Table, random: &mut Random) {
 
 /// A message of good form, for tables that are handed in broken.
 pub fn sound_message(values: &Values, table: &Table, random: &mut Random) -> Vec<u8> {
-    let intent = *random.pick(&[Intent::OpenNew, Intent::CloseOpen, Intent::PathNew, Intent::TearHeld]);
+    let intent = *random.pick(&[
+        Intent::OpenNew,
+        Intent::NamelessNew,
+        Intent::NamelessAgain,
+        Intent::CloseOpen,
+        Intent::PathNew,
+        Intent::TearHeld,
+    ]);
     let (kind, fields) = intent::fields(intent, values, table, random);
     let objects = if kind == NOTIFY {
         fields.request()

@@ -1,8 +1,9 @@
 //! Plain looks at a table, for the generator and for the functions that break tables.
 
-use crate::build::Connection;
+use crate::build::{Connection, Fields};
 use crate::form::{self, long_id};
 use crate::layout::SLOTS;
+use crate::made;
 use crate::random::Random;
 use second::table::{Call, Customer, Place, Table};
 
@@ -157,6 +158,35 @@ pub fn some_used(table: &Table, random: &mut Random) -> Option<usize> {
 
 pub fn some_call(table: &Table, random: &mut Random) -> Option<Call> {
     some_used(table, random).map(|slot| table.calls[slot])
+}
+
+/// A call that came without names (A6).
+pub fn some_marked(table: &Table, random: &mut Random) -> Option<Call> {
+    let marked: Vec<&Call> = calls(table).filter(|call| call.made == 1).collect();
+    (!marked.is_empty()).then(|| **random.pick(&marked))
+}
+
+/// The short ID that a nameless request of the pair would get.
+pub fn next_made(table: &Table, endpoint: u32, sender: u32) -> u16 {
+    let of_pair = |call: &&Call| (call.endpoint, call.sender) == (endpoint, sender);
+    let mut taken = vec![false; 2 * SLOTS + 2];
+    for call in calls(table).filter(of_pair) {
+        let number = made::number_of(endpoint, sender, name(call)).map_or(0, usize::from);
+        for number in [number, call.id as usize] {
+            if let Some(mark) = taken.get_mut(number) {
+                *mark = true;
+            }
+        }
+    }
+    let free = (1..taken.len()).find(|&number| !taken[number]);
+    free.expect("each call is in the way of two") as u16
+}
+
+/// Whether a nameless request of these fields made the call.
+pub fn is_made_by(call: &Call, fields: &Fields) -> bool {
+    call.made == 1
+        && (call.endpoint, call.sender) == (fields.endpoint, fields.sender)
+        && (call.epoch, call.identifier) == (fields.epoch, fields.identifier)
 }
 
 pub fn some_held(table: &Table, random: &mut Random) -> Option<Held> {

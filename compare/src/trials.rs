@@ -7,7 +7,7 @@ use crate::change;
 use crate::checkpoints;
 use crate::intent::CHURN;
 use crate::layout::{field, words};
-use crate::near::NEAR_MISSES;
+use crate::near;
 use crate::outside::{self, Changed, Due};
 use crate::random::Random;
 use crate::source;
@@ -47,7 +47,7 @@ impl Trials<'_> {
                 self.broken(name, *change)
                     .map_err(|what| format!("broken ({name}): {what}"))?;
             }
-            for (name, change) in NEAR_MISSES {
+            for (name, change) in near::all() {
                 self.near(name, *change)
                     .map_err(|what| format!("nearly broken ({name}): {what}"))?;
             }

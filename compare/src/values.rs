@@ -11,6 +11,8 @@ pub struct Values {
     pub ids: Vec<u16>,
     /// Long Call IDs: no padding.
     pub names: Vec<Vec<u8>>,
+    /// A MESSAGE_ID's epochs and identifiers.
+    pub requests: Vec<(u32, u32)>,
     pub tunnels: Vec<u16>,
     pub extended: Vec<u32>,
     pub lsps: Vec<u16>,
@@ -34,11 +36,36 @@ impl Values {
             extended: vec![0, endpoints[0], senders[0]],
             lsps: vec![0, ids[0], ids[2], 0x0100],
             names: names(count, random),
+            requests: requests(count, random),
             senders,
             endpoints,
             ids,
         }
     }
+
+    /// All messages of one pair, so that it has all calls.
+    pub fn of_one_pair(roster: &Roster, random: &mut Random) -> Values {
+        let mut values = Values::new(roster, random);
+        values.endpoints.truncate(1);
+        // The one that may have most calls.
+        let most = roster.records.iter().max_by_key(|record| record.limit);
+        values.senders = vec![most.expect("a roster has a record").address];
+        values
+    }
+}
+
+/// Zeros, the largest, such that have one number in common, and any.
+fn requests(count: usize, random: &mut Random) -> Vec<(u32, u32)> {
+    let largest = (0x00ff_ffff, u32::MAX);
+    let (epoch, identifier) = (random.word() >> 8, random.word());
+    let mut requests = vec![(0, 0), largest, (0, 1), (1, 0), (epoch, identifier)];
+    requests.extend([(epoch, 0), (0, identifier), (largest.0, 0), (0, largest.1)]);
+    requests.extend([(epoch, identifier.wrapping_add(1)), (identifier >> 8, epoch)]);
+    while requests.len() < count {
+        let (other, any) = (random.word() >> 8, random.word());
+        requests.push((*random.pick(&[epoch, other]), *random.pick(&[identifier, any, any])));
+    }
+    requests
 }
 
 /// Two to four end points; senders are among them, so that a pair and its swap both occur.

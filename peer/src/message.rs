@@ -7,12 +7,14 @@ pub struct Objects {
     pub template: usize,
     pub identifier: usize,
     pub attribute: usize,
-    /// Bytes of the long Call ID, in a Notify.
+    /// Bytes of the long Call ID, in a Notify; 0 where it is nameless.
     pub name: usize,
 }
 
 pub enum Kind {
     Open,
+    /// Name Length 0 and Call ID 0.
+    OpenNameless,
     Close,
     Add,
     Drop,
@@ -180,6 +182,9 @@ pub fn read(s: &[u8]) -> Read {
         return Read::Unfit(12, sender);
     }
     let size = s[attribute + 7];
+    if bits & 1 == 0 && size == 0 && be16(s, session + 8) == 0 {
+        return Read::Message(Kind::OpenNameless, o);
+    }
     if be16(s, session + 8) == 0 || size > 32 {
         return Read::Unfit(13, sender);
     }

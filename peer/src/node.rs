@@ -35,6 +35,10 @@ fn checked(table: &mut Table, counts: &Counts, s: &[u8], reply: &mut [u8]) -> (u
             let (answer, code) = open(table, counts, k, pair, id, name(s, &o));
             (answer, notify(table, s, &o, 8, code, reply))
         }
+        Kind::OpenNameless => match open_nameless(table, counts, k, pair, requested(s, &o)) {
+            (answer, Some(slot)) => (answer, notify_made(table, s, &o, slot, reply)),
+            (answer, None) => (answer, notify(table, s, &o, 8, 0x0002_0000, reply)),
+        },
         Kind::Close => {
             let (answer, code) = close(table, pair, id, name(s, &o));
             (answer, notify(table, s, &o, 9, code, reply))
@@ -111,10 +115,22 @@ fn open(table: &mut Table, counts: &Counts, k: usize, pair: u64, id: u32, name: 
     if short {
         return (30, 0x0020_0001);
     }
-    let (count, one) = (u32::from(counts.calls[k]), &table.customers[k]);
-    if count == one.limit || count >= one.guarantee && counts.sum as usize == total(table) {
+    if share_is_used(table, counts, k) {
         return (34, 0x0002_0000);
     }
+    add_call(table, pair, id, name);
+    (20, 0)
+}
+
+#[inline(always)]
+fn share_is_used(table: &Table, counts: &Counts, k: usize) -> bool {
+    let (count, one) = (u32::from(counts.calls[k]), &table.customers[k]);
+    count == one.limit || count >= one.guarantee && counts.sum as usize == total(table)
+}
+
+/// Puts a call into the lowest free slot.
+#[inline(always)]
+fn add_call(table: &mut Table, pair: u64, id: u32, name: &[u8]) -> usize {
     let slot = lowest_free(table);
     table.occupied[slot / 32] |= 1 << (slot % 32);
     let call = &mut table.calls[slot];
@@ -122,7 +138,77 @@ fn open(table: &mut Table, counts: &Counts, k: usize, pair: u64, id: u32, name: 
     (call.endpoint, call.sender) = (pair as u32, (pair >> 32) as u32);
     (call.id, call.size) = (id, name.len() as u32);
     call.name[..name.len()].copy_from_slice(name);
-    (20, 0)
+    slot
+}
+
+/// The MESSAGE_ID's epoch and identifier.
+#[inline(always)]
+fn requested(s: &[u8], o: &Objects) -> (u32, u32) {
+    (be32(s, o.identifier + 4) & 0x00ff_ffff, be32(s, o.identifier + 8))
+}
+
+/// The answer, and the slot of the call where it is 20 or 21. It stands apart, so that named requests are as fast as they
+/// were.
+#[cold]
+#[inline(never)]
+fn open_nameless(table: &mut Table, counts: &Counts, k: usize, pair: u64, request: (u32, u32)) -> (u8, Option<usize>) {
+    // Each call is in the way of two numbers.
+    let mut in_the_way = [false; 2 * CALLS + 2];
+    let mut note = |number: usize| {
+        if let Some(mark) = in_the_way.get_mut(number) {
+            *mark = true;
+        }
+    };
+    let made = made_name(pair, 0);
+    let mut known = None;
+    calls_of(table, pair, |i, call| {
+        if call.made != 0 && (call.epoch, call.identifier) == request {
+            known = Some(i);
+        }
+        note(call.id as usize);
+        if call.size == 20 && call.name[..16] == made[..16] {
+            note(number_of(&call.name[16..20]));
+        }
+        known.is_some()
+    });
+    if known.is_some() {
+        return (21, known);
+    }
+    if share_is_used(table, counts, k) {
+        return (34, None);
+    }
+    let id = 1 + in_the_way[1..].iter().take_while(|&&mark| mark).count();
+    let slot = add_call(table, pair, id as u32, &made_name(pair, id));
+    let call = &mut table.calls[slot];
+    (call.made, call.epoch, call.identifier) = (1, request.0, request.1);
+    (20, Some(slot))
+}
+
+const DIGITS: &[u8; 16] = b"0123456789abcdef";
+
+/// Sender, end point and short ID in lower case hex digits.
+#[inline(always)]
+fn made_name(pair: u64, id: usize) -> [u8; 20] {
+    let mut name = [0; 20];
+    for (at, digit) in name.iter_mut().enumerate() {
+        let bits = if at < 16 {
+            pair >> (60 - 4 * at)
+        } else {
+            (id >> (76 - 4 * at)) as u64
+        };
+        *digit = DIGITS[(bits & 15) as usize];
+    }
+    name
+}
+
+/// The number that four lower case hex digits are, 0 where they are something else.
+#[inline(always)]
+fn number_of(digits: &[u8]) -> usize {
+    let value = |digit: &u8| DIGITS.iter().position(|one| one == digit);
+    let number = digits
+        .iter()
+        .try_fold(0, |number, digit| Some(16 * number + value(digit)?));
+    number.unwrap_or(0)
 }
 
 #[inline(always)]
@@ -241,8 +327,37 @@ fn seal(reply: &mut [u8]) {
 #[inline(always)]
 fn notify(table: &mut Table, s: &[u8], o: &Objects, status: u32, error: u32, reply: &mut [u8]) -> usize {
     let size = usize::from(be16(s, o.attribute));
-    let n = 80 + size;
-    let r = &mut reply[..n];
+    let r = &mut reply[..80 + size];
+    put_front(table, s, o, status, error, r);
+    r[68..68 + size].copy_from_slice(&s[o.attribute..o.attribute + size]);
+    r[68 + size..].copy_from_slice(&s[o.template..o.template + 12]);
+    seal(r);
+    80 + size
+}
+
+/// The reply to a nameless request that was answered 20 or 21: the IDs are the call's.
+#[cold]
+#[inline(never)]
+fn notify_made(table: &mut Table, s: &[u8], o: &Objects, slot: usize, reply: &mut [u8]) -> usize {
+    let call = table.calls[slot];
+    let size = 8 + (call.size as usize).next_multiple_of(4);
+    let r = &mut reply[..80 + size];
+    put_front(table, s, o, 8, 0, r);
+    r[52..54].copy_from_slice(&(call.id as u16).to_be_bytes());
+    put32(r, 68, (size as u32) << 16 | 0xcf07);
+    r[72..75].copy_from_slice(&s[o.attribute + 4..o.attribute + 7]);
+    r[75] = call.size as u8;
+    // Behind a name its bytes are zeros.
+    r[76..68 + size].copy_from_slice(&call.name[..size - 8]);
+    r[68 + size..].copy_from_slice(&s[o.template..o.template + 12]);
+    seal(r);
+    80 + size
+}
+
+/// All that stands before the SESSION_ATTRIBUTE; the own identifier moves.
+#[inline(always)]
+fn put_front(table: &mut Table, s: &[u8], o: &Objects, status: u32, error: u32, r: &mut [u8]) {
+    let n = r.len();
     put32(r, 0, 0x1015_0000);
     put32(r, 4, 0xff00_0000 | n as u32);
     put32(r, 8, 0x000c_1801);
@@ -257,11 +372,7 @@ fn notify(table: &mut Table, s: &[u8], o: &Objects, status: u32, error: u32, rep
     r[44..60].copy_from_slice(&s[o.session..o.session + 16]);
     put32(r, 60, 0x0008_c401);
     put32(r, 64, status);
-    r[68..68 + size].copy_from_slice(&s[o.attribute..o.attribute + size]);
-    r[68 + size..80 + size].copy_from_slice(&s[o.template..o.template + 12]);
-    seal(r);
     table.next = table.next.wrapping_add(1);
-    n
 }
 
 #[inline(always)]

@@ -1,6 +1,7 @@
 //! Answer 1: every table rule in one pass over the table. Keys (pair and short ID, pair and name, connections) go into
 //! small hash chains on the stack; what met something in its chain is compared exactly afterwards. A table made so that
-//! chains grow long is sorted instead. A table of few calls gets fewer chains, for they are zeroed every time.
+//! chains grow long is sorted instead, as the numbers of made calls always are. A table of few calls gets fewer chains,
+//! for they are zeroed every time.
 
 use crate::table::{pair_of, Call, Customer, Place, Table, CALLS, TOTALS};
 use std::mem::MaybeUninit;
@@ -223,6 +224,8 @@ struct Pass<const HEADS: usize, const IDS: usize> {
 struct Bits {
     /// What no rule allows.
     bad: u64,
+    /// All marks and numbers of made calls.
+    requests: u32,
     /// All bits of all places.
     low: u64,
     high: u64,
@@ -259,7 +262,7 @@ impl<const HEADS: usize, const IDS: usize> Pass<HEADS, IDS> {
             return None;
         }
         let sum = share_sum(&table.customers[..listed], &pass.calls, total)?;
-        if pass.twice(table) {
+        if pass.twice(table) || bits.requests != 0 && !requests_hold(table) {
             return None;
         }
         let mut counted = [0; 8];
@@ -274,7 +277,8 @@ impl<const HEADS: usize, const IDS: usize> Pass<HEADS, IDS> {
         if size.wrapping_sub(1) >= 32 || call.id.wrapping_sub(1) >= 0xffff {
             return None;
         }
-        bits.bad |= u64::from(call.refreshed | call.epoch | call.identifier | call.made);
+        bits.bad |= u64::from(call.refreshed);
+        bits.requests |= call.epoch | call.identifier | call.made;
         bits.bad |= u64::from(call.name[size - 1] == 0);
         // SAFETY: all reads lie within the name or, the size being 1 to 32, within PAST.
         let name = unsafe {
@@ -396,6 +400,27 @@ fn sorted_twice(table: &Table) -> bool {
     beside(ids) || beside(names) || beside(connections)
 }
 
+/// The rules of made calls, for a table that may have some: a mark is 0 or 1, an epoch has 24 bits, unmarked calls have
+/// zeros there, and no two made calls of a pair share both numbers. Free slots are zeros.
+#[cold]
+#[inline(never)]
+fn requests_hold(table: &Table) -> bool {
+    let mut requests = [(0u64, 0u64); CALLS];
+    let (mut n, mut bad) = (0, 0);
+    for call in &table.calls {
+        // What is taken from 0 has all bits set, from 1 none.
+        let numbers = (call.epoch | call.identifier) & call.made.wrapping_sub(1);
+        bad |= numbers | call.made >> 1 | call.epoch >> 24;
+        if call.made != 0 {
+            requests[n] = (call.pair(), u64::from(call.epoch) << 32 | u64::from(call.identifier));
+            n += 1;
+        }
+    }
+    let requests = &mut requests[..n];
+    requests.sort_unstable();
+    bad == 0 && !beside(requests)
+}
+
 fn beside<T: PartialEq>(sorted: &[T]) -> bool {
     sorted.windows(2).any(|two| two[0] == two[1])
 }
@@ -451,6 +476,30 @@ mod tests {
             assert!(breaks(&|table| table.calls[last].id = 1));
             assert!(breaks(&|table| table.calls[last].name[0] = 1));
         }
+    }
+
+    #[test]
+    fn made_calls() {
+        let breaks = |change: &dyn Fn(&mut Table)| {
+            let mut broken = all_meet(2);
+            let table = Table::of_mut(&mut broken);
+            for call in &mut table.calls[..2] {
+                (call.made, call.epoch) = (1, 7);
+            }
+            table.calls[1].identifier = 8;
+            change(table);
+            !rules_hold(&broken)
+        };
+        assert!(!breaks(&|_| ()));
+        assert!(breaks(&|table| table.calls[0].identifier = 8));
+        assert!(!breaks(
+            &|table| (table.calls[0].endpoint, table.calls[0].identifier) = (7, 8)
+        ));
+        assert!(breaks(&|table| table.calls[0].made = 0));
+        assert!(breaks(&|table| table.calls[0].made = 3));
+        assert!(breaks(&|table| table.calls[0].epoch = 1 << 24));
+        assert!(breaks(&|table| table.calls[2].identifier = 1));
+        assert!(!breaks(&|table| table.calls[2].made = 1));
     }
 
     #[test]

@@ -1,6 +1,6 @@
-//! 01, "Every answer" and "Share": opening and closing calls.
+//! 01, "Every answer" and "Share": opening and closing calls; A6, calls that arrive without names.
 
-use crate::keys::Name;
+use crate::keys::{CallIds, Name, Pair, RequestId};
 use crate::message::CallRequest;
 use crate::node::{Node, OpenCall};
 use crate::places::Places;
@@ -21,18 +21,55 @@ impl Node {
         if self.roster.share_is_used(customer) {
             return 34;
         }
+        self.add_call(request.pair, CallIds { id: request.id, name }, None, customer);
+        20
+    }
+
+    /// A6, an open without names: 21 by its two numbers, 34, 20. With 20 and 21 the call's IDs, to be sent.
+    pub(crate) fn open_nameless(&mut self, request: &CallRequest<'_>, customer: usize) -> (u8, Option<CallIds>) {
+        let (pair, made_by) = (request.pair, request.request_id());
+        if let Some(&id) = self.made.get(&(pair, made_by)) {
+            let name = self.calls[&(pair, id)].name;
+            return (21, Some(CallIds { id, name }));
+        }
+        if self.roster.share_is_used(customer) {
+            return (34, None);
+        }
+        let ids = self.unused_ids(pair);
+        self.add_call(pair, ids, Some(made_by), customer);
+        (20, Some(ids))
+    }
+
+    /// A6: the least short ID from 1 such that neither it nor its name is in use by the pair.
+    fn unused_ids(&self, pair: Pair) -> CallIds {
+        let unused =
+            |ids: &CallIds| !self.calls.contains_key(&(pair, ids.id)) && !self.long_ids.contains_key(&(pair, ids.name));
+        let mut made = (1..=u16::MAX).map(|id| CallIds::made_of(pair, id));
+        made.find(unused).expect("200 calls are in the way of 400 numbers")
+    }
+
+    /// A call that share allows, with IDs that its pair does not use.
+    fn add_call(&mut self, pair: Pair, ids: CallIds, made_by: Option<RequestId>, customer: usize) {
         // Calls are at most S. Either S is under the total, or this customer is under its guarantee and calls are
         // under S.
         let slot = self.free.take_lowest().expect("share leaves a free slot");
         let call = OpenCall {
             slot,
-            name,
+            name: ids.name,
+            made_by,
             places: Places::default(),
         };
-        self.calls.insert(short, call);
-        self.long_ids.insert(long, request.id);
+        self.enter(pair, ids.id, call);
         self.roster.accounts[customer].open += 1;
-        20
+    }
+
+    /// Puts a call into the maps. False where its pair had one with its short ID, its long ID or its two numbers.
+    pub(crate) fn enter(&mut self, pair: Pair, id: u16, call: OpenCall) -> bool {
+        let (name, made_by) = (call.name, call.made_by);
+        let id_twice = self.calls.insert((pair, id), call).is_some();
+        let name_twice = self.long_ids.insert((pair, name), id).is_some();
+        let request_twice = made_by.is_some_and(|request| self.made.insert((pair, request), id).is_some());
+        !id_twice && !name_twice && !request_twice
     }
 
     /// Close: 33, 32, 22.
@@ -44,6 +81,9 @@ impl Node {
         let call = &self.calls[&short];
         if !call.places.all_free() {
             return 32;
+        }
+        if let Some(made_by) = call.made_by {
+            self.made.remove(&(request.pair, made_by));
         }
         self.free.release(call.slot);
         self.calls.remove(&short);

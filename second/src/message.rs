@@ -1,8 +1,9 @@
-//! 01, "Message layout" and "Every answer", and 02's A1: reading a message as one of four kinds, and answers 3 to 10, 12 and 13.
+//! 01, "Message layout" and "Every answer", and 02's A1 and A6: reading a message as one of four kinds, and answers 3 to
+//! 10, 12 and 13.
 
 use crate::bytes::{long, word};
 use crate::checksum;
-use crate::keys::{without_padding, Connection, Pair};
+use crate::keys::{without_padding, Connection, Pair, RequestId};
 use crate::objects::{walk, Objects};
 use crate::table::NAME;
 
@@ -30,9 +31,10 @@ pub enum Message<'a> {
 #[derive(Clone, Copy, PartialEq, Eq, Debug)]
 pub struct CallRequest<'a> {
     pub pair: Pair,
-    /// The short Call ID, not 0.
+    /// The short Call ID. It is 0 in a nameless open only.
     pub id: u16,
-    /// The long Call ID, 1 to 32 bytes, without the zeros that were counted in Name Length.
+    /// The long Call ID, 1 to 32 bytes, without the zeros that were counted in Name Length. It is empty in a nameless
+    /// open only.
     pub name: &'a [u8],
     pub session: &'a [u8; 16],
     pub template: &'a [u8; 12],
@@ -59,6 +61,21 @@ pub(crate) struct Fault {
 impl From<u8> for Fault {
     fn from(answer: u8) -> Fault {
         Fault { answer, sender: None }
+    }
+}
+
+impl CallRequest<'_> {
+    /// A6: an open that leaves both IDs to the node.
+    pub fn is_nameless(&self) -> bool {
+        self.id == 0
+    }
+
+    /// The MESSAGE_ID's epoch and identifier, its flags apart.
+    pub fn request_id(&self) -> RequestId {
+        RequestId {
+            epoch: long(self.message_id, 4) & 0x00ff_ffff,
+            identifier: long(self.message_id, 8),
+        }
     }
 }
 
@@ -170,11 +187,15 @@ fn notify<'a>(objects: &Objects<'a>) -> Result<Message<'a>, Fault> {
     })
 }
 
-/// Answers 12 and 13. The name is as received: its 32 counts padding, but a name of nothing else is none.
+/// Answers 12 and 13. The name is as received: its 32 counts padding, but a name of nothing else is none. An open may
+/// leave out both IDs (A6): Name Length 0, for zeros are no empty name, and Call ID 0.
 fn notify_fault(status: u32, error_spec: &[u8; 12], id: u16, received: &[u8]) -> Option<u8> {
     let (code, value) = (error_spec[9], word(error_spec, 10));
     if status & CALL == 0 || status & REFLECT == 0 || code != 0 || value != 0 {
         return Some(12);
+    }
+    if status & DELETE == 0 && id == 0 && received.is_empty() {
+        return None;
     }
     if id == 0 || received.len() > NAME || without_padding(received).is_empty() {
         return Some(13);

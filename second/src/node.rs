@@ -2,10 +2,10 @@
 
 use std::collections::HashMap;
 
-use crate::keys::{Connection, LongId, Name, ShortId};
+use crate::keys::{Connection, LongId, Name, PairRequest, RequestId, ShortId};
 use crate::message::{read, CallRequest, Message};
 use crate::places::Places;
-use crate::reply::{self, Own};
+use crate::reply::{self, Outcome, Own};
 use crate::roster::Roster;
 use crate::slots::Slots;
 use crate::table::Table;
@@ -22,6 +22,8 @@ pub struct Node {
     pub(crate) calls: HashMap<ShortId, OpenCall>,
     /// The short Call ID that goes with a long one.
     pub(crate) long_ids: HashMap<LongId, u16>,
+    /// The short Call ID of the call that a nameless request made (A6).
+    pub(crate) made: HashMap<PairRequest, u16>,
     /// The free ones of the total's slots.
     pub(crate) free: Slots,
     /// The connections, and where each stands.
@@ -32,6 +34,8 @@ pub struct Node {
 pub(crate) struct OpenCall {
     pub slot: usize,
     pub name: Name,
+    /// The nameless request that made it (A6). None where it was opened by name.
+    pub made_by: Option<RequestId>,
     pub places: Places,
 }
 
@@ -83,12 +87,17 @@ impl Node {
         };
         match message {
             Message::Open(request) => {
-                let answer = self.open(&request, customer);
-                (answer, self.notify(reply, &request, false, answer))
+                let (answer, made) = match request.is_nameless() {
+                    true => self.open_nameless(&request, customer),
+                    false => (self.open(&request, customer), None),
+                };
+                let closes = false;
+                (answer, self.notify(reply, &request, Outcome { closes, answer, made }))
             }
             Message::Close(request) => {
                 let answer = self.close(&request, customer);
-                (answer, self.notify(reply, &request, true, answer))
+                let (closes, made) = (true, None);
+                (answer, self.notify(reply, &request, Outcome { closes, answer, made }))
             }
             Message::Add(request) => match self.add(&request, customer) {
                 refusal @ (35 | 37) => {
@@ -116,13 +125,13 @@ impl Node {
     }
 
     /// Sends a Notify, which uses up one own identifier.
-    fn notify(&mut self, reply: &mut [u8], request: &CallRequest<'_>, closes: bool, answer: u8) -> usize {
+    fn notify(&mut self, reply: &mut [u8], request: &CallRequest<'_>, outcome: Outcome) -> usize {
         let own = Own {
             address: self.address,
             epoch: self.epoch,
             identifier: self.next,
         };
         self.next = self.next.wrapping_add(1);
-        reply::notify(reply, own, request, closes, answer)
+        reply::notify(reply, own, request, outcome)
     }
 }

@@ -1,6 +1,7 @@
 //! 01, "Reply bytes".
 
 use crate::checksum;
+use crate::keys::{CallIds, Name};
 use crate::message::{CallRequest, PathRequest};
 
 /// A reply buffer has to have this many bytes, or the answer is 2.
@@ -21,22 +22,55 @@ pub(crate) struct Own {
     pub identifier: u32,
 }
 
+/// What became of an open or a close.
+#[derive(Clone, Copy)]
+pub(crate) struct Outcome {
+    pub closes: bool,
+    pub answer: u8,
+    /// The IDs to send in place of those received: the call's, where a nameless request was answered 20 or 21 (A6).
+    pub made: Option<CallIds>,
+}
+
 /// Writes the Notify that answers an open or a close, and gives its length.
-pub(crate) fn notify(reply: &mut [u8], own: Own, request: &CallRequest<'_>, closes: bool, answer: u8) -> usize {
-    let status = if closes { CLOSING } else { OPENING };
+pub(crate) fn notify(reply: &mut [u8], own: Own, request: &CallRequest<'_>, outcome: Outcome) -> usize {
+    let status = if outcome.closes { CLOSING } else { OPENING };
     let mut writer = Writer::behind_header(reply);
     writer.put(&[0, 12, 24, 1, 0]);
     writer.put(&request.message_id[5..]);
     writer.put(&[0, 12, 23, 1]);
     writer.put(&(own.epoch | 0x0100_0000).to_be_bytes());
     writer.put(&own.identifier.to_be_bytes());
-    writer.put_error_spec(own.address, answer);
-    writer.put(request.session);
+    writer.put_error_spec(own.address, outcome.answer);
+    match &outcome.made {
+        Some(made) => writer.put(&session_with(request.session, made.id)),
+        None => writer.put(request.session),
+    }
     writer.put(&[0, 8, 196, 1]);
     writer.put(&status.to_be_bytes());
-    writer.put(request.attribute);
+    match &outcome.made {
+        Some(made) => writer.put(&attribute_with(request.attribute, &made.name)),
+        None => writer.put(request.attribute),
+    }
     writer.put(request.template);
     writer.finish(NOTIFY)
+}
+
+/// A6: the SESSION as received but for the Call ID.
+fn session_with(received: &[u8; 16], id: u16) -> [u8; 16] {
+    let mut session = *received;
+    session[8..10].copy_from_slice(&id.to_be_bytes());
+    session
+}
+
+/// A6: a SESSION_ATTRIBUTE of the priorities and flags received and this name.
+fn attribute_with(received: &[u8], name: &Name) -> Vec<u8> {
+    let length = 8 + usize::from(name.size).next_multiple_of(4);
+    let mut attribute = vec![0, length as u8, 207, 7];
+    attribute.extend(&received[4..7]);
+    attribute.push(name.size);
+    attribute.extend(name.as_bytes());
+    attribute.resize(length, 0);
+    attribute
 }
 
 /// Writes the PathErr that refuses a Path, and gives its length.

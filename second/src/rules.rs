@@ -1,15 +1,15 @@
-//! 01, "Table rules": from a table to the node's maps, which is the rule check, and back.
+//! 01, "Table rules", and those of 02: from a table to the node's maps, which is the rule check, and back.
 
 use std::collections::HashMap;
 
-use crate::keys::{Connection, Name, Pair};
+use crate::keys::{Connection, Name, Pair, RequestId};
 use crate::node::{Holder, Node, OpenCall, Position};
 use crate::places::Places;
 use crate::roster::{Form, Roster};
 use crate::slots::Slots;
 use crate::table::{Call, Customer, Place, Table, PLACES};
 
-/// An own epoch is under this.
+/// An epoch is under this, a node's own and a request's.
 const EPOCHS: u32 = 1 << 24;
 
 impl Node {
@@ -47,6 +47,7 @@ impl Node {
             roster,
             calls: HashMap::new(),
             long_ids: HashMap::new(),
+            made: HashMap::new(),
             connections: HashMap::new(),
         })
     }
@@ -56,15 +57,16 @@ impl Node {
         self.roster.share_sum() <= self.roster.total()
     }
 
-    /// A used slot of the total: listed sender within its limit, good IDs that its pair has only once, zeros for later
-    /// requests.
+    /// A used slot of the total: listed sender within its limit, good IDs that its pair has only once, as it has the
+    /// two numbers of a made call; zeros for a later request.
     pub(crate) fn insert_call(&mut self, slot: usize, call: &Call) -> Option<()> {
         if !self.free.take(slot) {
             return None;
         }
-        if call.made != 0 || call.refreshed != 0 || call.epoch != 0 || call.identifier != 0 {
+        if call.refreshed != 0 {
             return None;
         }
+        let made_by = checked_request(call)?;
         let id = u16::try_from(call.id).ok()?;
         let name = checked_name(call)?;
         let customer = self.roster.find(call.sender)?;
@@ -79,10 +81,13 @@ impl Node {
         };
         let holder = Holder::Call { id, slot };
         let places = self.insert_places(pair, holder, &call.places)?;
-        let open = OpenCall { slot, name, places };
-        let id_twice = self.calls.insert((pair, id), open).is_some();
-        let name_twice = self.long_ids.insert((pair, name), id).is_some();
-        (!id_twice && !name_twice).then_some(())
+        let open = OpenCall {
+            slot,
+            name,
+            made_by,
+            places,
+        };
+        self.enter(pair, id, open).then_some(())
     }
 
     /// The four of a call.
@@ -145,6 +150,7 @@ impl Node {
             call.id = id.into();
             call.size = open.name.size.into();
             call.name = open.name.bytes;
+            put_request(call, open.made_by);
         }
         for (connection, position) in &self.connections {
             put_connection(&mut table, connection, position);
@@ -186,6 +192,26 @@ fn checked_name(call: &Call) -> Option<Name> {
         return None;
     }
     Some(Name { size, bytes: call.name })
+}
+
+/// A6: the request that made the call, if the mark says that one did; an unmarked call has zeros there. Else a rule is
+/// broken. 0 and 0 are numbers like others.
+fn checked_request(call: &Call) -> Option<Option<RequestId>> {
+    let &Call { epoch, identifier, .. } = call;
+    match call.made {
+        0 => (epoch == 0 && identifier == 0).then_some(None),
+        1 => (epoch < EPOCHS).then_some(Some(RequestId { epoch, identifier })),
+        _ => None,
+    }
+}
+
+/// The mark and the two numbers of a made call; the fields of any other stay zero.
+pub(crate) fn put_request(call: &mut Call, made_by: Option<RequestId>) {
+    if let Some(RequestId { epoch, identifier }) = made_by {
+        call.made = 1;
+        call.epoch = epoch;
+        call.identifier = identifier;
+    }
 }
 
 /// The connection of a pair that a place holds, if it holds one: taken is 1 and both IDs have sixteen bits, or the

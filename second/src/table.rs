@@ -22,8 +22,8 @@ pub struct Place {
     pub lsp: u32,
 }
 
-/// A call. Its long Call ID is the first `size` bytes of `name`. `refreshed`, `epoch`, `identifier` and `made` are for
-/// later requests: a table rule holds them at zero.
+/// A call. Its long Call ID is the first `size` bytes of `name`. `made` is 1 where the node made its IDs (A6), and then
+/// `epoch` and `identifier` are the request's. `refreshed` is for a later request: a table rule holds it at zero.
 #[repr(C)]
 #[derive(Clone, Copy, PartialEq, Eq, Debug)]
 pub struct Call {

@@ -98,11 +98,11 @@ int main(void)
     broken("taken 2", &table.calls[0].places[0].taken, 2);
     broken("a free slot's end point", &table.calls[9].endpoint, 1);
     broken("a name that ends in zero", &table.calls[0].size, 2);
-    /* These are zero until later requests use them. */
+    /* The last refresh is zero until a later request uses it; only a call that the node made has the others. */
     broken("refreshed", &table.calls[0].refreshed, 1);
     broken("epoch", &table.calls[0].epoch, 1);
     broken("identifier", &table.calls[0].identifier, 1);
-    broken("made", &table.calls[0].made, 1);
+    broken("made", &table.calls[0].made, 2);
     printf("they are at %zu, %zu, %zu and %zu\n", offsetof(chaffmoor_call, refreshed), offsetof(chaffmoor_call, epoch),
            offsetof(chaffmoor_call, identifier), offsetof(chaffmoor_call, made));
 

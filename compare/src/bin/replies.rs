@@ -3,6 +3,7 @@
 
 use compare::build::{self, Connection, Record, Roster};
 use compare::first;
+use compare::made;
 use second::table::Table;
 
 const X: u32 = 0x0a00_0001;
@@ -81,4 +82,9 @@ fn main() {
     node.send(&build::open(END, X, 2, b"second"), 20);
     node.send(&build::open(END, X, 3, b"third"), 34);
     node.send(&build::close(END, X, 2, b"second"), 22);
+    // Without names (A6): made, again, at the limit, by the made IDs.
+    node.send(&build::nameless(END, X, (9, 1)), 20);
+    node.send(&build::nameless(END, X, (9, 1)), 21);
+    node.send(&build::nameless(END, X, (9, 2)), 34);
+    node.send(&build::close(END, X, 2, &made::name(END, X, 2)), 22);
 }

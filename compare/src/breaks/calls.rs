@@ -1,5 +1,5 @@
 //! "Every call's sender is listed", "no pair has a long or short ID twice", "names 1 to 32 bytes and Call IDs nonzero",
-//! "a stored name ends in a nonzero byte" (A1); the fields for later requests hold zeros.
+//! "a stored name ends in a nonzero byte" (A1); the field for a later request holds zero.
 
 use super::tools::*;
 use super::Break;
@@ -23,21 +23,12 @@ pub const BREAKS: &[(&str, Break)] = &[
     ("Call ID 0", id_none),
     ("byte right behind the name", byte_behind),
     ("byte anywhere past the name", byte_past),
-    ("last refresh of a call", |t, r| {
-        later(t, r, |call, bit| call.refreshed = bit)
-    }),
-    ("request epoch of a call", |t, r| {
-        later(t, r, |call, bit| call.epoch = bit)
-    }),
-    ("request identifier of a call", |t, r| {
-        later(t, r, |call, bit| call.identifier = bit)
-    }),
-    ("made mark of a call", |t, r| later(t, r, |call, _| call.made = 1)),
+    ("last refresh of a call", last_refresh),
     ("occupied bit set over a free slot", bit_set),
     ("occupied bit cleared over a used slot", bit_cleared),
 ];
 
-fn with_call(table: &mut Table, random: &mut Random, change: impl FnOnce(&mut Call)) -> bool {
+pub(super) fn with_call(table: &mut Table, random: &mut Random, change: impl FnOnce(&mut Call)) -> bool {
     let Some(slot) = tables::some_used(table, random) else {
         return false;
     };
@@ -151,10 +142,10 @@ fn with_short_name(table: &mut Table, random: &mut Random, change: impl FnOnce(&
     true
 }
 
-/// Changes one of the fields that are for later requests and hold zeros.
-fn later(table: &mut Table, random: &mut Random, change: fn(&mut Call, u32)) -> bool {
+/// Of a marked call too.
+fn last_refresh(table: &mut Table, random: &mut Random) -> bool {
     let bit = 1 << random.below(32);
-    with_call(table, random, |call| change(call, bit))
+    with_call(table, random, |call| call.refreshed = bit)
 }
 
 fn bit_set(table: &mut Table, random: &mut Random) -> bool {

@@ -1,6 +1,6 @@
 //! "What is free holds zeros": each field of a free slot, of a free place and of an unused record.
 
-use super::tools::some_customer;
+use super::tools::{set_request, some_customer};
 use super::Break;
 use crate::random::Random;
 use crate::tables::{self, is_taken};
@@ -22,7 +22,12 @@ pub const BREAKS: &[(&str, Break)] = &[
     ("free slot's request identifier", |t, r| {
         slot(t, r, |call, r| call.identifier = bit32(r))
     }),
-    ("free slot's made mark", |t, r| slot(t, r, |call, _| call.made = 1)),
+    ("free slot's made mark", |t, r| {
+        slot(t, r, |call, r| call.made = if r.chance(1, 2) { 1 } else { bit32(r) })
+    }),
+    ("free slot's mark and numbers", |t, r| {
+        slot(t, r, |call, r| set_request(call, Some((r.word() >> 8, r.word()))))
+    }),
     ("free slot's short ID", |t, r| slot(t, r, |call, r| call.id = bit32(r))),
     ("free slot's name size", |t, r| {
         slot(t, r, |call, r| call.size = bit32(r))

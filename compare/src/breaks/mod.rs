@@ -6,6 +6,7 @@ mod calls;
 mod connections;
 pub mod form;
 mod free;
+mod made;
 mod roster;
 pub mod tools;
 
@@ -19,6 +20,7 @@ pub fn all() -> impl Iterator<Item = &'static (&'static str, Break)> {
     roster::BREAKS
         .iter()
         .chain(calls::BREAKS)
+        .chain(made::BREAKS)
         .chain(connections::BREAKS)
         .chain(free::BREAKS)
         .chain(form::BREAKS)

@@ -44,6 +44,18 @@ pub fn set_name(call: &mut Call, name: &[u8]) {
     call.name[..name.len()].copy_from_slice(name);
 }
 
+/// Marks a call as made by a request with these numbers (A6), or takes mark and numbers away.
+pub fn set_request(call: &mut Call, made_by: Option<(u32, u32)>) {
+    call.made = made_by.is_some().into();
+    (call.epoch, call.identifier) = made_by.unwrap_or_default();
+}
+
+/// An epoch and an identifier.
+pub fn some_numbers(random: &mut Random) -> (u32, u32) {
+    let any = (random.word() >> 8, random.word());
+    *random.pick(&[any, any, (0, 0), (0, 1), (1, 0), (0x00ff_ffff, u32::MAX)])
+}
+
 /// A name of 16 random bytes: no call has it.
 pub fn fresh_name(call: &mut Call, random: &mut Random) {
     let name = random.long_id(16);
@@ -74,7 +86,7 @@ fn two_calls(table: &Table, random: &mut Random, wanted: fn(&Call, &Call) -> boo
 }
 
 /// Two calls of one pair with nothing else in common: the second is moved into the first's pair, with fresh IDs and
-/// without connections.
+/// without connections or a mark.
 pub fn two_of_a_pair(table: &mut Table, random: &mut Random) -> Option<(usize, usize)> {
     let (one, other) = two_of_a_sender(table, random)?;
     let id = fresh_id(table, random);
@@ -84,6 +96,7 @@ pub fn two_of_a_pair(table: &mut Table, random: &mut Random) -> Option<(usize, u
     call.id = id;
     call.places = [FREE_PLACE; 4];
     fresh_name(call, random);
+    set_request(call, None);
     Some((one, other))
 }
 

@@ -16,24 +16,36 @@ pub const DAMAGES: &[(&str, Damage)] = &[
     ("call: last refresh set", |p, _, r| {
         one(p, r, |call, r| set(call, REFRESHED, 1 << r.below(32)))
     }),
-    ("call: request epoch set", |p, _, r| {
+    ("call: made mark cleared", |p, _, r| {
+        one(p, r, |call, _| call[SIZE.0] &= 0x7f)
+    }),
+    ("call: request epoch set, marked or not", |p, _, r| {
         one(p, r, |call, r| set(call, EPOCH, 1 << r.below(24)))
     }),
-    ("call: request identifier set", |p, _, r| {
+    ("call: request identifier set, marked or not", |p, _, r| {
         one(p, r, |call, r| set(call, IDENTIFIER, 1 << r.below(32)))
     }),
+    ("call: made, with the outermost numbers", |p, _, r| one(p, r, outermost)),
+    ("call: made, under any name", |p, _, r| one(p, r, any_name)),
+    ("calls: made, numbers twice in the pair", |p, _, r| {
+        numbers_twice(p, r, true)
+    }),
+    ("calls: made, numbers in two pairs", |p, _, r| {
+        numbers_twice(p, r, false)
+    }),
+    ("calls: made, one number twice in the pair", one_number_twice),
     ("call: name past its length", |p, _, r| one(p, r, past_name)),
-    ("call: name length 0", |p, _, r| one(p, r, |call, _| call[SIZE.0] = 0)),
+    ("call: name length 0", |p, _, r| one(p, r, |call, _| set_size(call, 0))),
     ("call: name length above 32", |p, _, r| {
-        one(p, r, |call, r| call[SIZE.0] = *r.pick(&[33, 34, 64, 65, 127]))
+        one(p, r, |call, r| set_size(call, *r.pick(&[33, 34, 64, 65, 127])))
     }),
     ("call: another name length", |p, _, r| {
-        one(p, r, |call, r| call[SIZE.0] = r.between(1, 32) as u8)
+        one(p, r, |call, r| set_size(call, r.between(1, 32)))
     }),
     ("call: name's last byte zero", |p, _, r| one(p, r, last_zero)),
     ("call: name of zeros only", |p, _, r| {
         one(p, r, |call, r| {
-            call[SIZE.0] = r.between(1, 32) as u8;
+            set_size(call, r.between(1, 32));
             call[NAME.0..REFRESHED.0].fill(0);
         })
     }),
@@ -77,6 +89,62 @@ fn one(parts: &mut Parts, random: &mut Random, change: fn(&mut Call, &mut Random
     true
 }
 
+/// Marked, with numbers of zeros or the largest.
+fn outermost(call: &mut Call, random: &mut Random) {
+    call[SIZE.0] |= 0x80;
+    set(call, EPOCH, *random.pick(&[0, 0x00ff_ffff]));
+    set(call, IDENTIFIER, *random.pick(&[0, 0, u32::MAX]));
+}
+
+fn any_name(call: &mut Call, random: &mut Random) {
+    call[SIZE.0] |= 0x80;
+    let size = random.between(1, 32);
+    set_size(call, size);
+    call[NAME.0..REFRESHED.0].fill(0);
+    call[NAME.0..][..size].copy_from_slice(&random.long_id(size));
+}
+
+/// Two calls marked, the second with the first one's numbers: moved into its pair, with IDs of its own, or not.
+fn numbers_twice(parts: &mut Parts, random: &mut Random, moved: bool) -> bool {
+    let Some((one, other)) = two(parts, random) else {
+        return false;
+    };
+    if random.chance(1, 3) {
+        outermost(&mut parts.calls[one], random);
+    }
+    parts.calls[one][SIZE.0] |= 0x80;
+    let (epoch, identifier) = numbers(&parts.calls[one]);
+    let (endpoint, sender) = pair(&parts.calls[one]);
+    let call = &mut parts.calls[other];
+    any_name(call, random);
+    set(call, EPOCH, epoch);
+    set(call, IDENTIFIER, identifier);
+    if moved {
+        set(call, ENDPOINT, endpoint);
+        set(call, SENDER, sender);
+        set(call, ID, 1 + u32::from(random.half() >> 1));
+    }
+    true
+}
+
+/// The same in one pair, with one of the numbers changed.
+fn one_number_twice(parts: &mut Parts, _: &Roster, random: &mut Random) -> bool {
+    let Some(number) = parts.some_call(random) else {
+        return false;
+    };
+    let mut call = parts.calls[number];
+    parts.calls[number][SIZE.0] |= 0x80;
+    any_name(&mut call, random);
+    set(&mut call, ID, 1 + u32::from(random.half() >> 1));
+    call[SLOT.0] = random.byte();
+    let (field, bits) = *random.pick(&[(EPOCH, 24), (IDENTIFIER, 32)]);
+    let changed = get(&call, field) ^ 1 << random.below(bits);
+    set(&mut call, field, changed);
+    let place = random.between(0, parts.calls.len());
+    parts.calls.insert(place, call);
+    true
+}
+
 /// Some call to this slot.
 fn to_slot(parts: &mut Parts, slot: usize, random: &mut Random) -> bool {
     let Some(number) = parts.some_call(random) else {
@@ -99,7 +167,7 @@ pub fn two(parts: &Parts, random: &mut Random) -> Option<(usize, usize)> {
 /// A byte past the name, often the first or the last; a name of 32 bytes is shortened.
 fn past_name(call: &mut Call, random: &mut Random) {
     let size = usize::from(call[SIZE.0] & 0x7f).min(31);
-    call[SIZE.0] = size as u8;
+    set_size(call, size);
     let any = random.between(size, 31);
     let at = *random.pick(&[size, 31, any]);
     call[NAME.0 + at] = 1 << random.below(8);
@@ -114,7 +182,7 @@ fn last_zero(call: &mut Call, _: &mut Random) {
 pub fn pad(call: &mut Call, random: &mut Random) {
     let size = usize::from(call[SIZE.0] & 0x7f);
     if size < 32 {
-        call[SIZE.0] = *random.pick(&[size + 1, 32]) as u8;
+        set_size(call, *random.pick(&[size + 1, 32]));
     } else {
         last_zero(call, random);
     }

@@ -120,8 +120,11 @@ fn broken(parts: &mut Parts, roster: &Roster, random: &mut Random) -> bool {
     let call = &mut parts.calls[duplicate];
     match random.below(3) {
         0 => call[SLOT.0] = roster.total() as u8,
-        1 => set(call, EPOCH, 1),
-        _ => call[SIZE.0] |= 0x80,
+        1 => set(call, REFRESHED, 1),
+        _ => {
+            call[SIZE.0] &= 0x7f;
+            set(call, EPOCH, 1);
+        }
     }
     name(parts, duplicate, 6, random);
     true

@@ -4,6 +4,8 @@
 use super::parts::*;
 use crate::form::{self, Customer};
 use crate::layout::SLOTS;
+use crate::ledger::Restored;
+use crate::made::{self, Ids};
 use std::collections::HashMap;
 
 /// Why a record is dropped.
@@ -16,14 +18,14 @@ pub const REASONS: &[&str] = &[
     "call alone: name length above 32",
     "call alone: byte past the name",
     "call alone: name ends in zero",
-    "call alone: made mark",
     "call alone: last refresh",
-    "call alone: request epoch",
-    "call alone: request identifier",
+    "call alone: request epoch without the mark",
+    "call alone: request identifier without the mark",
     "duplicate: fewer connections",
     "duplicate: as many connections, but later",
     "call beside others: slot taken",
     "call beside others: short ID twice",
+    "call beside others: request numbers twice",
     "call beside others: limit",
     "call beside others: S",
     "connection: sender not listed",
@@ -34,11 +36,24 @@ pub const REASONS: &[&str] = &[
     "connection: a customer's four",
 ];
 
+/// Made calls that are kept (A6).
+pub const KEPT: &[&str] = &[
+    "made call kept: under the name made of its ID",
+    "made call kept: under another name",
+    "made call kept: numbers 0 and 0",
+    "made call kept: numbers 0 and 0, beside an unmarked call of the pair",
+    "made call kept: largest epoch",
+    "made call kept: the numbers of another pair's",
+    "made call kept: one number of another of the pair",
+];
+
 /// The reasons of the calls and of the connections dropped.
 #[derive(Default)]
 pub struct Drops {
     pub calls: Vec<&'static str>,
     pub connections: Vec<&'static str>,
+    /// What made calls were kept.
+    pub kept: Vec<&'static str>,
 }
 
 /// The roster that a checkpoint is read under.
@@ -52,22 +67,7 @@ pub fn expected_drops(roster: &[u8], parts: &Parts) -> Drops {
     let (total, customers) = form::accepted(roster);
     let roster = Roster { total, customers };
     let mut drops = Drops::default();
-    let names = names(parts);
-    let mut left: Vec<(&Call, usize)> = Vec::new();
-    for call in &parts.calls {
-        match alone(&roster, call) {
-            Some(reason) => drops.calls.push(reason),
-            None => left.push((call, names.get(&short_id(call)).copied().unwrap_or(0))),
-        }
-    }
-    let mut kept: Vec<&Call> = Vec::new();
-    for number in 0..left.len() {
-        let call = left[number].0;
-        match duplicate(&left, number).or_else(|| beside(&roster, &kept, call)) {
-            Some(reason) => drops.calls.push(reason),
-            None => kept.push(call),
-        }
-    }
+    let kept = kept_calls(&roster, parts, &mut drops);
     let mut held = Held::default();
     for connection in &parts.connections {
         match connected(&roster, &kept, &held, connection) {
@@ -75,7 +75,81 @@ pub fn expected_drops(roster: &[u8], parts: &Parts) -> Drops {
             None => held.put(connection),
         }
     }
+    let is_made = |call: &&&Call| is_marked(call);
+    drops.kept = kept
+        .iter()
+        .filter(is_made)
+        .flat_map(|call| kinds(&kept, call))
+        .collect();
     drops
+}
+
+/// The calls that salvage keeps, in their order.
+fn kept_calls<'a>(roster: &Roster, parts: &'a Parts, drops: &mut Drops) -> Vec<&'a Call> {
+    let names = names(parts);
+    let mut left: Vec<(&Call, usize)> = Vec::new();
+    for call in &parts.calls {
+        match alone(roster, call) {
+            Some(reason) => drops.calls.push(reason),
+            None => left.push((call, names.get(&short_id(call)).copied().unwrap_or(0))),
+        }
+    }
+    let mut kept: Vec<&Call> = Vec::new();
+    for number in 0..left.len() {
+        let call = left[number].0;
+        match duplicate(&left, number).or_else(|| beside(roster, &kept, call)) {
+            Some(reason) => drops.calls.push(reason),
+            None => kept.push(call),
+        }
+    }
+    kept
+}
+
+/// The calls that salvage restores, for a ledger.
+pub fn restored_calls(roster: &[u8], parts: &Parts) -> Vec<Restored> {
+    let (total, customers) = form::accepted(roster);
+    let kept = kept_calls(&Roster { total, customers }, parts, &mut Drops::default());
+    kept.into_iter().map(restored).collect()
+}
+
+fn restored(call: &Call) -> Restored {
+    let (endpoint, sender) = pair(call);
+    Restored {
+        endpoint,
+        sender,
+        ids: Ids {
+            short: get(call, ID) as u16,
+            long: name(call).to_vec(),
+        },
+        made_by: is_marked(call).then(|| numbers(call)),
+    }
+}
+
+/// What a made call is that was kept beside the others.
+fn kinds(kept: &[&Call], call: &Call) -> Vec<&'static str> {
+    let (endpoint, sender) = pair(call);
+    let number = made::number_of(endpoint, sender, name(call)).map(u32::from);
+    let is_made_of_id = number == Some(get(call, ID));
+    let zeros = numbers(call) == (0, 0);
+    let of_pair = |one: &Call| pair(one) == pair(call) && short_id(one) != short_id(call);
+    let shared = |one: &Call| {
+        let ((epoch, identifier), (other, others)) = (numbers(call), numbers(one));
+        epoch == other || identifier == others
+    };
+    let any = |wanted: &dyn Fn(&Call) -> bool| kept.iter().any(|&one| wanted(one));
+    let came = [
+        (is_made_of_id, KEPT[0]),
+        (!is_made_of_id, KEPT[1]),
+        (zeros, KEPT[2]),
+        (zeros && any(&|one| of_pair(one) && !is_marked(one)), KEPT[3]),
+        (get(call, EPOCH) == 0x00ff_ffff, KEPT[4]),
+        (
+            any(&|one| pair(one) != pair(call) && is_marked(one) && numbers(one) == numbers(call)),
+            KEPT[5],
+        ),
+        (any(&|one| of_pair(one) && is_marked(one) && shared(one)), KEPT[6]),
+    ];
+    came.into_iter().filter(|kind| kind.0).map(|kind| kind.1).collect()
 }
 
 /// A short Call ID with its pair.
@@ -140,10 +214,15 @@ fn alone(roster: &Roster, call: &Call) -> Option<&'static str> {
         (size > 32, "call alone: name length above 32"),
         (past, "call alone: byte past the name"),
         (ends_in_zero, "call alone: name ends in zero"),
-        (call[SIZE.0] >= 0x80, "call alone: made mark"),
         (get(call, REFRESHED) != 0, "call alone: last refresh"),
-        (get(call, EPOCH) != 0, "call alone: request epoch"),
-        (get(call, IDENTIFIER) != 0, "call alone: request identifier"),
+        (
+            !is_marked(call) && get(call, EPOCH) != 0,
+            "call alone: request epoch without the mark",
+        ),
+        (
+            !is_marked(call) && get(call, IDENTIFIER) != 0,
+            "call alone: request identifier without the mark",
+        ),
     ];
     first_of(&faults)
 }
@@ -155,8 +234,8 @@ fn first_of(faults: &[(bool, &'static str)]) -> Option<&'static str> {
 /// Step 2: whether another call of those left, with how many connections name it, is kept in this one's place.
 fn duplicate(left: &[(&Call, usize)], number: usize) -> Option<&'static str> {
     let (call, names) = left[number];
-    // The name's length, the name and the pair.
-    let same = |other: &Call| pair(other) == pair(call) && other[SIZE.0..REFRESHED.0] == call[SIZE.0..REFRESHED.0];
+    // The mark is no part of a name.
+    let same = |other: &Call| pair(other) == pair(call) && name(other) == name(call);
     let duplicates = || left.iter().enumerate().filter(|other| same(other.1 .0));
     let more = duplicates().any(|other| other.1 .1 > names);
     let before = duplicates().any(|other| other.1 .1 == names && other.0 < number);
@@ -175,12 +254,17 @@ fn beside(roster: &Roster, kept: &[&Call], call: &Call) -> Option<&'static str> 
     let larger = |one: &Customer| count(one.address).max(one.guarantee);
     let mut own = roster.customers.iter().filter(|one| one.address == get(call, SENDER));
     let short = |one: &&Call| short_id(one) == short_id(call);
+    let request = |one: &&Call| is_marked(one) && pair(one) == pair(call) && numbers(one) == numbers(call);
     first_of(&[
         (
             kept.iter().any(|one| one[SLOT.0] == call[SLOT.0]),
             "call beside others: slot taken",
         ),
         (kept.iter().any(short), "call beside others: short ID twice"),
+        (
+            is_marked(call) && kept.iter().any(request),
+            "call beside others: request numbers twice",
+        ),
         (
             own.any(|one| count(one.address) > one.limit),
             "call beside others: limit",
@@ -276,6 +360,53 @@ mod tests {
             "call beside others: limit",
         ];
         assert_eq!(expected_drops(ROSTER, &parts).calls, due);
+    }
+
+    /// A6: a mark and two numbers.
+    fn made(call: Call, epoch: u32, identifier: u32) -> Call {
+        let mut call = call;
+        call[SIZE.0] |= 0x80;
+        set(&mut call, EPOCH, epoch);
+        set(&mut call, IDENTIFIER, identifier);
+        call
+    }
+
+    #[test]
+    fn made_calls_beside_others() {
+        let mut roster = ROSTER.to_vec();
+        // A limit of 8.
+        *roster.last_mut().expect("a limit") = 32;
+        let mut elsewhere = made(call(6, 5, b'e'), 1, 2);
+        set(&mut elsewhere, ENDPOINT, 77);
+        let mut numbers = call(7, 9, b'f');
+        set(&mut numbers, EPOCH, 1);
+        let parts = Parts {
+            calls: vec![
+                made(call(3, 5, b'a'), 1, 2),
+                made(call(4, 6, b'b'), 1, 2),
+                made(call(5, 7, b'c'), 2, 1),
+                elsewhere,
+                numbers,
+                // The same name, marked and not.
+                made(call(8, 10, b'g'), 0, 0),
+                call(9, 11, b'g'),
+            ],
+            connections: Vec::new(),
+        };
+        // Those alone come first.
+        let due = [
+            "call alone: request epoch without the mark",
+            "call beside others: request numbers twice",
+            "duplicate: as many connections, but later",
+        ];
+        assert_eq!(expected_drops(&roster, &parts).calls, due);
+        let restored = restored_calls(&roster, &parts);
+        let shorts: Vec<u16> = restored.iter().map(|call| call.ids.short).collect();
+        assert_eq!(shorts, [5, 7, 5, 10]);
+        assert_eq!(
+            (restored[1].made_by, &restored[1].ids.long[..]),
+            (Some((2, 1)), &b"c"[..])
+        );
     }
 
     /// A11: slots and limits are those of the roster's form.

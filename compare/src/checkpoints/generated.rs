@@ -81,11 +81,16 @@ fn call(total: usize, pairs: &[(u32, u32)], values: usize, random: &mut Random) 
     // The last byte, which is the first one too in a name of one, is not zero.
     let last = if size == 1 { value + 1 } else { 1 };
     set(&mut call, (NAME.0 + size - 1, 1), last);
+    if random.chance(1, 3) {
+        call[SIZE.0] |= 0x80;
+        set(&mut call, EPOCH, random.below(2) as u32);
+        set(&mut call, IDENTIFIER, random.below(values) as u32);
+    }
     match random.below(60) {
         0 => set(&mut call, SLOT, total as u32),
         1 => set(&mut call, ID, 0),
         2 => set(&mut call, SIZE, 0),
-        3 => set(&mut call, SIZE, 0x81),
+        3 => call[SIZE.0] ^= 0x80,
         4 => set(&mut call, (NAME.0 + 31, 1), 1),
         5 => set(&mut call, (NAME.0 + size - 1, 1), 0),
         _ => {}
@@ -116,7 +121,7 @@ fn largest(roster: &Roster, values: usize, random: &mut Random) -> Vec<u8> {
     };
     if values == parts.calls.len() {
         for (number, call) in parts.calls.iter_mut().enumerate() {
-            set(call, SIZE, 3);
+            set_size(call, 3);
             set(call, (NAME.0, 3), (number as u32) << 8 | 1);
         }
     }
@@ -136,7 +141,7 @@ fn duplicates(roster: &Roster, counts: &[usize], random: &mut Random) -> Vec<u8>
         let id = number as u32 + 1;
         let mut call = call(roster.total(), &[pair], 1, random);
         set(&mut call, ID, id);
-        set(&mut call, SIZE, 1);
+        set_size(&mut call, 1);
         set(&mut call, (NAME.0, 3), u32::from(b'n') << 16);
         parts.calls.push(call);
         let named = (0..count).map(|_| connections::fresh(pair, id, random));

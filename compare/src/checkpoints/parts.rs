@@ -52,6 +52,27 @@ pub fn under_pair(connection: &Connection) -> (u32, u32) {
     (get(connection, UNDER_ENDPOINT), get(connection, UNDER_SENDER))
 }
 
+/// Whether a call came without names (A6).
+pub fn is_marked(call: &Call) -> bool {
+    call[SIZE.0] >= 0x80
+}
+
+/// The epoch and identifier of the request that made it.
+pub fn numbers(call: &Call) -> (u32, u32) {
+    (get(call, EPOCH), get(call, IDENTIFIER))
+}
+
+/// A call's name, of at most 32 bytes.
+pub fn name(call: &Call) -> &[u8] {
+    let size = usize::from(call[SIZE.0] & 0x7f).min(NAME.1);
+    &call[NAME.0..][..size]
+}
+
+/// Sets the name's length and leaves the mark as it is.
+pub fn set_size(call: &mut Call, size: usize) {
+    call[SIZE.0] = call[SIZE.0] & 0x80 | size as u8;
+}
+
 /// The records of a checkpoint.
 #[derive(Clone, Default)]
 pub struct Parts {

@@ -6,7 +6,7 @@ use crate::coverage::situations;
 use crate::form;
 use crate::full::Full;
 use crate::intent::{Mode, FILL, MODES};
-use crate::near::NEAR_MISSES;
+use crate::near;
 use crate::random::Random;
 use crate::rosters::{self, Shape, SHAPES};
 use crate::source;
@@ -93,7 +93,8 @@ impl TableSource {
 /// One of the near misses: calls in any slots, only the last place taken, S at the total and so on.
 fn nearly_break(table: &mut Table, random: &mut Random) {
     let before = *table;
-    let (_, change) = *random.pick(NEAR_MISSES);
+    let all: Vec<_> = near::all().collect();
+    let (_, change) = **random.pick(&all);
     if table.listed == 0 || !change(table, random) {
         *table = before;
     }

@@ -1,6 +1,6 @@
 //! What the checkpoints have shown so far, and what they have to have shown by the run's end.
 
-use super::expected::REASONS;
+use super::expected::{KEPT, REASONS};
 use crate::tally::{lacking_answers, lacking_counts, print_answers, print_counts, raise, Counts};
 
 const READING: [u8; 11] = [0, 40, 41, 42, 43, 44, 45, 46, 70, 71, 72];
@@ -31,6 +31,7 @@ pub struct Tally {
     writing: [u64; 256],
     kinds: Counts,
     reasons: Counts,
+    kept: Counts,
     /// The same where a copy that was written under form 2 is read under form 1, by the first record of each kind.
     narrowed: Counts,
     pub checkpoints: u64,
@@ -47,6 +48,7 @@ impl Tally {
             writing: [0; 256],
             kinds: kinds.map(|name| (name, 0)).collect(),
             reasons: REASONS.iter().map(|&name| (name, 0)).collect(),
+            kept: KEPT.iter().map(|&name| (name, 0)).collect(),
             narrowed: NARROWED.iter().map(|&(_, name)| (name, 0)).collect(),
             checkpoints: 0,
             round_trips: 0,
@@ -70,6 +72,10 @@ impl Tally {
         raise(&mut self.reasons, reason);
     }
 
+    pub fn kept(&mut self, kind: &'static str) {
+        raise(&mut self.kept, kind);
+    }
+
     /// Why records were dropped of a copy of form 2, as it was written, under form 1.
     pub fn narrowed(&mut self, reasons: &[&'static str]) {
         for (reason, name) in NARROWED {
@@ -84,6 +90,7 @@ impl Tally {
         print_answers("answers to writing a checkpoint", &self.writing);
         print_counts("checkpoints, by what was done to them or to the roster", &self.kinds);
         print_counts("records dropped by salvage", &self.reasons);
+        print_counts("made calls kept", &self.kept);
         print_counts("checkpoints of form 2 read under form 1", &self.narrowed);
         let (trips, salvaged) = (self.round_trips, self.salvaged);
         println!("round trips: {trips}; checkpoints salvaged with records dropped: {salvaged}");
@@ -93,7 +100,7 @@ impl Tally {
     pub fn lacking(&self) -> Vec<String> {
         let mut lacking = lacking_answers("answer to reading", &READING, &self.reading);
         lacking.extend(lacking_answers("answer to writing", &WRITING, &self.writing));
-        for counts in [&self.kinds, &self.reasons, &self.narrowed] {
+        for counts in [&self.kinds, &self.reasons, &self.kept, &self.narrowed] {
             lacking.extend(lacking_counts("", counts));
         }
         if self.checkpoints < CHECKPOINTS {

@@ -32,10 +32,16 @@ pub fn read(roster: &[u8], checkpoint: &[u8], tally: &mut Tally) -> Result<Vec<&
             writing::again(&read.table, roster).map_err(|error| format!("{what}, read and written: {error}"))?;
         }
     }
-    let Due::Kept(Drops { mut calls, connections }) = due else {
+    let Due::Kept(Drops {
+        mut calls,
+        connections,
+        kept,
+    }) = due
+    else {
         return Ok(Vec::new());
     };
     calls.extend(connections);
+    kept.iter().for_each(|kind| tally.kept(kind));
     tally.salvaged += u64::from(!calls.is_empty());
     calls.iter().for_each(|reason| tally.dropped(reason));
     Ok(calls)

@@ -1,3 +1,4 @@
 pub mod Twins
 pub mod Outside
+pub mod Requests
 pub mod Copy

@@ -6,8 +6,8 @@ use mathlib.Core.List.{List, [], _∷_, _++_, map}
 use mathlib.Core.Bool.{Bool, true, false}
 use lib.ListN.{length}
 use Rattle.numbers.specs.BigEndian.{bytes16, bytes32}
-use Rattle.table.specs.Lists.{Ids, entries, Held, held}
-use Rattle.spec_changes.specs.Calls.{stored}
+use Rattle.table.specs.Lists.{entries, Held, held}
+use Rattle.spec_changes.specs.Calls.{New, stored}
 use Rattle.spec_checkpoint.specs.Layout.{callBytes, connectionBytes, joined, headBytes}
 use Rattle.spec_checkpoint.specs.Restored.{Restored, restored}
 
@@ -35,9 +35,13 @@ end = 0x0a000002
 abbrev pub rosterBytes : List ℕ
 rosterBytes = 0x11 ∷ bytes32 end ++ (0 ∷ 0 ∷ 7 ∷ []) ++ bytes32 X ++ bytes16 0x0208
 
--- X's call of one long ID, under a short ID
-abbrev pub call : ℕ → Ids
-call short = record { endpoint = end; sender = X; short = short; long = 110 ∷ 49 ∷ [] }
+-- X's call of one long ID, under a short ID, as it is opened by name
+abbrev pub call : ℕ → New
+call short = record {
+  ids = record { endpoint = end; sender = X; short = short; long = 110 ∷ 49 ∷ [] };
+  made = false;
+  request = record { epoch = 0; identifier = 0 };
+}
 
 -- the call under one short ID in slot 0, under another in slot 1
 abbrev twins : ℕ → ℕ → List ℕ

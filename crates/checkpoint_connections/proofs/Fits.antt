@@ -19,7 +19,7 @@ use Rattle.lists.proofs.Shown.{count-shown}
 use Rattle.table.specs.Table.{Table}
 use Rattle.table.specs.Total.{slots}
 use Rattle.table.specs.Word.{isUsed}
-use Rattle.table.specs.Lists.{customerAt, termsOf, roster, callAt, idsOf, Entry, openAt, entries, Held, callFour, customerFour, placeAt, isTaken, connectionAt, heldIn, heldAt, standaloneAt, held}
+use Rattle.table.specs.Lists.{customerAt, termsOf, roster, callAt, idsOf, entryOf, Entry, openAt, entries, Held, callFour, customerFour, placeAt, isTaken, connectionAt, heldIn, heldAt, standaloneAt, held}
 use Rattle.table.specs.Share.{isListed}
 use Rattle.table.specs.Rules.{sameConnection, rulesHold}
 use Rattle.spec_changes.specs.Calls.{slotOf}
@@ -48,13 +48,13 @@ only-at f p i (suc n) l h =
 
 module _ (t : Table) (x : Held) (i : ℕ) where
   not-there : (j : ℕ) → (j ≡ i → ⊥) → countIf (isCallIn x i) (openAt t j) ≡ 0
-  not-there j n = rw (count-element (isCallIn x i) (isUsed (t .occupied) j) (record { slot = j; ids = idsOf (callAt t j) }), ne-eqb i j (λ (e : i ≡ j). n (sym e)), and-false (isUsed (t .occupied) j))
+  not-there j n = rw (count-element (isCallIn x i) (isUsed (t .occupied) j) (entryOf j (callAt t j)), ne-eqb i j (λ (e : i ≡ j). n (sym e)), and-false (isUsed (t .occupied) j))
 
   -- a slot has a connection's call
   pub call-in : i < slots → has (isCallIn x i) (entries t) ≡ (isUsed (t .occupied) i && isUnder (idsOf (callAt t i)) x)
   call-in l =
       let e : countIf (isCallIn x i) (entries t) ≡ bit (isUsed (t .occupied) i && (eqb i i && isUnder (idsOf (callAt t i)) x)) =
-      only-at (openAt t) (isCallIn x i) i slots l (λ j _ n. not-there j n) ∙ count-element (isCallIn x i) (isUsed (t .occupied) i) (record { slot = i; ids = idsOf (callAt t i) }) in
+      only-at (openAt t) (isCallIn x i) i slots l (λ j _ n. not-there j n) ∙ count-element (isCallIn x i) (isUsed (t .occupied) i) (entryOf i (callAt t i)) in
       rw (e, eq-eqb i i refl) (some-bit (isUsed (t .occupied) i && isUnder (idsOf (callAt t i)) x))
 
   pub call-out : slots ≤ i → has (isCallIn x i) (entries t) ≡ false
@@ -99,7 +99,7 @@ module _ (t : Table) (x : Held) where
       all-own = count-shown (λ j. isTaken (placeAt (callFour (callAt t i)) j)) (connectionAt (callFour (callAt t i))) (sameFour x) (λ y. true) true 4 (under-four x (callAt t i) i own)
 
       called : 0 < countIf (isCallOf x) (openAt t i)
-      called = rw (count-element (isCallOf x) (isUsed (t .occupied) i) (record { slot = i; ids = idsOf (callAt t i) }), used, own) (omega arith)
+      called = rw (count-element (isCallOf x) (isUsed (t .occupied) i) (entryOf i (callAt t i)), used, own) (omega arith)
 
       module _ (k : Kept t) where
         -- a call's ID is not 0
@@ -116,20 +116,20 @@ module _ (t : Table) (x : Held) where
             let f = found-slot t (isCallOf x) all in
             let j = slotOf t (isCallOf x) in
             one-place (openAt t) (isCallOf x) i j slots inside (f .0) called
-            (rw (count-element (isCallOf x) (isUsed (t .occupied) j) (record { slot = j; ids = idsOf (callAt t j) }), f .1, f .2) (omega arith))
+            (rw (count-element (isCallOf x) (isUsed (t .occupied) j) (entryOf j (callAt t j)), f .1, f .2) (omega arith))
             (one-call t k x)
 
         -- no other slot has one of its four
         other : (j : ℕ) → j < slots → (j ≡ i → ⊥) → countIf (sameFour x) (heldAt t j) ≡ 0
         other j l n =
             count-not-list-if (sameFour x) (isUsed (t .occupied) j) (heldIn (callFour (callAt t j)))
-            (λ u. none-in (sameFour x) (callFour (callAt t j)) (λ m _ _. elsewhere t k x named (callAt t j) (by u (isCallOf x (record { slot = j; ids = idsOf (callAt t j) })) refl) m))
+            (λ u. none-in (sameFour x) (callFour (callAt t j)) (λ m _ _. elsewhere t k x named (callAt t j) (by u (isCallOf x (entryOf j (callAt t j))) refl) m))
           where
-            by : isUsed (t .occupied) j ≡ true → (b : Bool) → isCallOf x (record { slot = j; ids = idsOf (callAt t j) }) ≡ b → b ≡ false
+            by : isUsed (t .occupied) j ≡ true → (b : Bool) → isCallOf x (entryOf j (callAt t j)) ≡ b → b ≡ false
             by u false e = refl
             by u true e =
                 absurd (n (one-place (openAt t) (isCallOf x) j i slots l inside
-                (rw (count-element (isCallOf x) (isUsed (t .occupied) j) (record { slot = j; ids = idsOf (callAt t j) }), u, e) (omega arith))
+                (rw (count-element (isCallOf x) (isUsed (t .occupied) j) (entryOf j (callAt t j)), u, e) (omega arith))
                 called (one-call t k x)))
 
         four-is : countIf (sameFour x) (held t) ≡ countIf (λ y. true) (heldIn (callFour (callAt t i)))
@@ -212,7 +212,7 @@ held-most t =
     )
   where
     call : ℕ → Entry
-    call i = record { slot = i; ids = idsOf (callAt t i) }
+    call i = entryOf i (callAt t i)
 
     never : {P : Type 0} → true ≡ false → P
     never e = absurd (true≢false e)

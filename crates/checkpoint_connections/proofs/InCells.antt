@@ -20,7 +20,7 @@ use Rattle.lists.proofs.Below.{count-below, count-element}
 use Rattle.table.specs.Table.{Table}
 use Rattle.table.specs.Total.{slots}
 use Rattle.table.specs.Word.{isUsed}
-use Rattle.table.specs.Lists.{callAt, idsOf, openAt, Entry, entries, Lsp, Held, held}
+use Rattle.table.specs.Lists.{callAt, idsOf, entryOf, openAt, Entry, entries, Lsp, Held, held}
 use Rattle.table.specs.Rules.{isLsp, placeValid}
 use Rattle.table_words.proofs.NameBytes.{zero-get}
 use Rattle.spec_changes.specs.Connections.{placeFor, isUnder, isCallOf, added}
@@ -62,7 +62,7 @@ own-place f x e h =
 -- a slot more: its call, where it is used
 module _ (f : Factors) (t : Table) (cells : List ℕ) (i : ℕ) (k : CallsInCells f (below (openAt t) i) cells i) where
   abbrev here : Entry
-  here = record { slot = i; ids = idsOf (callAt t i) }
+  here = entryOf i (callAt t i)
 
   counts : (p : Entry → Bool) → countIf p (below (openAt t) (i + 1)) ≡ countIf p (below (openAt t) i) + bit (isUsed (t .occupied) i && p here)
   counts p = rw (add-one i) (omega (arith, count-below (openAt t) p i, count-element p (isUsed (t .occupied) i) here))

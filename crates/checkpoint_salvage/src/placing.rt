@@ -5,14 +5,15 @@ ghost use mathlib.Core.List.{List};
 ghost use mathlib.Core.Bool.{cond, true, false, _&&_};
 ghost use Prim.Native.Nat.{ℕ, _+_, _*_, _≤_, _<_};
 ghost use lib.ListN.{length, replicate};
+ghost use Rattle.lists.specs.Count.{has};
 ghost use Rattle.objects.specs.Part.{Within};
 ghost use Rattle.table.specs.Total.{slots, totalOf};
 ghost use Rattle.table.specs.Word.{isUsed};
 ghost use Rattle.table.specs.Lists.{idsOf, entries};
-ghost use Rattle.table.specs.Rules.{validIds, callFreeClear, rulesHold};
+ghost use Rattle.table.specs.Rules.{sameRequest, validIds, requestTidy, callFreeClear, rulesHold};
 ghost use Rattle.table.specs.Words.{tableOf};
 ghost use Rattle.spec_calls.specs.CallRules.{idsIn, shortInUse};
-ghost use Rattle.spec_checkpoint.specs.Layout.{callRecord};
+ghost use Rattle.spec_checkpoint.specs.Layout.{recordEntry, callRecord};
 ghost use Rattle.spec_checkpoint.specs.Salvage.{placed, soundAlone, callFits};
 use checkpoint_records::read::record_slot;
 use checkpoint_records::read::record_words;
@@ -48,23 +49,33 @@ fn place(t: &mut Words, s: &[u8], i: usize, slot: usize)
     mark_used(t, slot)
 }
 
+// Record i has a request's numbers only where it has the mark, the top bit above the name's length, of a call that the node
+// made. Three bytes hold no epoch that is too large. The last refresh is not in use yet.
+fn request_tidy(s: &[u8], i: usize) -> bool
+    requires { ⌜ 4 + 55 * i + 55 ≤ length (now s) ⌝ }
+    ensures { λ b. ⌜ b ≡ requestTidy (callRecord (now (s .entry)) i .call) ⌝ }
+{
+    let at = 4 + 55 * i;
+    let made = to_usize(s[at + 11]) / 128 == 1;
+    let none = (get24(s, at + 48) == 0) & (get32(s, at + 51) == 0);
+    (get32(s, at + 44) == 0) & (made | none)
+}
+
 // Record i's numbers are those of a call: a Call ID other than 0, a name of 1 to 32 bytes that ends in a byte that is
-// not zero, with zeros behind it, and nothing in what is not in use yet.
+// not zero, with zeros behind it, and a request only where the node made the call.
 fn tidy(s: &[u8], i: usize) -> bool
     requires { ⌜ 4 + 55 * i + 55 ≤ length (now s) ⌝ }
     ensures { λ b. ⌜ b ≡ (validIds (callRecord (now (s .entry)) i .call) && callFreeClear (callRecord (now (s .entry)) i .call)) ⌝ }
 {
     let at = 4 + 55 * i;
-    // the made mark is the top bit: without it, the byte is the name's length
-    let size = to_usize(s[at + 11]);
+    let size = to_usize(s[at + 11]) % 128;
     let sized = (0 < size) & (size <= 32);
     if !sized {
         return false;
     }
     let ends = s[at + 11 + size] != 0;
     let clear = zeros(s, at + 12 + size, 32 - size);
-    let unused = (get32(s, at + 44) == 0) & (get24(s, at + 48) == 0) & (get32(s, at + 51) == 0);
-    (get16(s, at + 1) != 0) & ends & clear & unused
+    (get16(s, at + 1) != 0) & ends & clear & request_tidy(s, i)
 }
 
 // The IDs of a tidy record as a request has them. There are no objects of a message: those parts are empty.
@@ -106,9 +117,46 @@ fn short_in_use(t: &Words, endpoint: u32, sender: u32, id: CallId) -> bool
     found
 }
 
+// The node has made a call for the pair and these two numbers of a request.
+fn made_for(t: &Words, endpoint: u32, sender: u32, request: MessageId) -> bool
+    ensures { λ b. ⌜ ((slot : ℕ) (short : ℕ) (long : List ℕ) → b ≡ has (sameRequest (record { slot = slot; ids = record { endpoint = endpoint; sender = sender; short = short; long = long }; made = true; request = request })) (entries (tableOf (now (t .entry))))) ⌝ }
+{
+    let n = used_below(t);
+    let mut found = false;
+    let mut i: usize = 0;
+    while i < n {
+        let c = call_head(t, i);
+        let pair = (endpoint == c.endpoint) & (sender == c.sender);
+        let same = (c.made == 1)
+            & pair
+            & (request.epoch == c.epoch)
+            & (request.identifier == c.identifier);
+        found = found | (is_used(t, i) & same);
+        i += 1;
+    }
+    found
+}
+
+// The call of a record that has the mark shares its pair and both numbers with one in the table.
+fn request_in_use(t: &Words, s: &[u8], i: usize) -> bool
+    requires { ⌜ 4 + 55 * i + 55 ≤ length (now s) ⌝ }
+    ensures { λ b. ⌜ b ≡ has (sameRequest (recordEntry (callRecord (now (s .entry)) i))) (entries (tableOf (now (t .entry)))) ⌝ }
+{
+    let at = 4 + 55 * i;
+    let made = to_usize(s[at + 11]) / 128 == 1;
+    if !made {
+        return false;
+    }
+    let request = MessageId {
+        epoch: get24(s, at + 48),
+        identifier: get32(s, at + 51),
+    };
+    made_for(t, get32(s, at + 3), get32(s, at + 7), request)
+}
+
 // Whether record i's call could stand in a free slot beside the calls in the table: its numbers are those of a call, its
-// sender is listed and has room, and neither ID is in use in its pair. The table keeps its rules, so that no other is
-// asked again.
+// sender is listed and has room, neither ID is in use in its pair and, where the node made it, nor is its request. The
+// table keeps its rules, so that no other is asked again.
 fn stands(t: &Words, s: &[u8], i: usize) -> bool
     requires { ⌜ (4 + 55 * i + 55 ≤ length (now s)) × (rulesHold (tableOf (now t)) ≡ true) × (callRecord (now s) i .slot < totalOf (tableOf (now t))) × (isUsed (tableOf (now t) .occupied) (callRecord (now s) i .slot) ≡ false) ⌝ }
     ensures { λ b. ⌜ b ≡ rulesHold (placed (tableOf (now (t .entry))) (callRecord (now (s .entry)) i)) ⌝ }
@@ -122,6 +170,9 @@ fn stands(t: &Words, s: &[u8], i: usize) -> bool
         return false;
     }
     if short_in_use(t, q.endpoint, q.sender, q.call) {
+        return false;
+    }
+    if request_in_use(t, s, i) {
         return false;
     }
     if share_used_up(t, q.sender) {

@@ -14,14 +14,14 @@ use Rattle.lists.proofs.Tests.{both}
 use Rattle.table.specs.Table.{Place, Table}
 use Rattle.table.specs.Total.{slots}
 use Rattle.table.specs.Word.{isUsed}
-use Rattle.table.specs.Lists.{callAt, customerAt, idsOf, entries, Held, Four, callFour, customerFour, placeAt, isTaken, connectionAt, heldPlace, heldIn}
+use Rattle.table.specs.Lists.{callAt, customerAt, entryOf, entries, Held, Four, callFour, customerFour, placeAt, isTaken, connectionAt, heldPlace, heldIn}
 use Rattle.table.specs.Rules.{placeValid, rulesHold}
 use Rattle.table.specs.Words.{occupiedOf, tableOf}
 use Rattle.table_words.specs.Fours.{Alike}
 use Rattle.table_words.proofs.Alike.{alike-held, alike-valid}
 use Rattle.spec_changes.proofs.Told.{rules-kept}
 use Rattle.spec_changes.proofs.Valid.{ids-named}
-use Rattle.spec_checkpoint.proofs.Codec.{call-size, unused}
+use Rattle.spec_checkpoint.proofs.Codec.{call-size, request-fits}
 use Rattle.spec_checkpoint.proofs.Fours.{under-valid, standalone-valid}
 use Rattle.spec_checkpoint.specs.Layout.{callBytes, connectionBytes}
 use Rattle.checkpoint_records.specs.Put.{Put, CallFields}
@@ -65,15 +65,14 @@ blocks-length b x y (suc n) h =
 pub calls-length : (w : List ℕ) → length (callsBytes (tableOf w)) ≡ 55 * length (entries (tableOf w))
 unfolding callsBytes
 calls-length w =
-    blocks-length (isUsed (occupiedOf w)) (λ i. callBytes i (callAt (tableOf w) i)) (λ i. record { slot = i; ids = idsOf (callAt (tableOf w) i) }) slots
+    blocks-length (isUsed (occupiedOf w)) (λ i. callBytes i (callAt (tableOf w) i)) (λ i. entryOf i (callAt (tableOf w) i)) slots
     (λ i l. call-size i (callAt (tableOf w) i) (name-long w i l))
 
 pub used-writable : (t : Table) → rulesHold t ≡ true → (i : ℕ) → i < slots → isUsed (t .occupied) i ≡ true → CallFields (callAt t i)
 used-writable t h i l u =
     let k = rules-kept t h in
     let n = ids-named (callAt t i) (k .names i l u) in
-    let z = unused (callAt t i) (rw u at (k .slots i l)) in
-    record { id = n .fits; made = omega (arith, z .0); size = omega (arith, n .most) }
+    record { id = n .fits; made = request-fits (callAt t i) (rw u at (k .slots i l)) .0; size = omega (arith, n .most) }
 
 -- ---- connections
 

@@ -10,7 +10,7 @@ use Rattle.lists.proofs.Search.{place-none, place-turn, place-rest}
 use Rattle.table.specs.Table.{Call, Table}
 use Rattle.table.specs.Total.{slots}
 use Rattle.table.specs.Word.{isUsed, FreeFrom}
-use Rattle.table.specs.Lists.{Ids, Entry, callAt, idsOf, openAt, callFour, heldIn, heldAt}
+use Rattle.table.specs.Lists.{Ids, Entry, callAt, idsOf, entryOf, openAt, callFour, heldIn, heldAt}
 use Rattle.table.specs.Rules.{sameShort, sameLong}
 use Rattle.table.proofs.Slots.{open-free, open-rest, held-rest}
 use Rattle.spec_changes.specs.Calls.{isCall}
@@ -42,7 +42,7 @@ module _ (t : Table) (c : Ids) where
   unfolding lookWith
   look-turn i used w e h =
       let u = isUsed (t .occupied) i in
-      let x : Entry = record { slot = i; ids = idsOf (callAt t i) } in
+      let x : Entry = entryOf i (callAt t i) in
       rw e
       (record {
         known = has-turn (openAt t) (isCall c) i (w .known) (u && isCall c x) u x refl (h .known) refl;

@@ -5,7 +5,7 @@ use Rattle.lists.specs.Count.{has}
 use Rattle.lists.specs.Below.{below}
 use Rattle.table.specs.Table.{Call, Table}
 use Rattle.table.specs.Total.{slots}
-use Rattle.table.specs.Lists.{Ids, idsOf, entries, callFour, heldIn, heldAt}
+use Rattle.table.specs.Lists.{Ids, idsOf, entryOf, entries, callFour, heldIn, heldAt}
 use Rattle.table.specs.Rules.{sameShort, sameLong}
 use Rattle.spec_changes.specs.Calls.{isCall, slotOf}
 use Rattle.spec_changes.specs.Connections.{isUnder}
@@ -24,9 +24,9 @@ lookOf t c = record {
 -- a look with one slot more, where that is used: its call, beside the request
 unfoldable pub lookWith : Look → ℕ → Bool → Call → Ids → Look
 lookWith w i used d c = record {
-  known = w .known || (used && isCall c (record { slot = i; ids = idsOf d }));
+  known = w .known || (used && isCall c (entryOf i d));
   long = w .long || (used && sameLong c (idsOf d));
   short = w .short || (used && sameShort c (idsOf d));
   busy = w .busy || (used && has (isUnder c) (heldIn (callFour d)));
-  slot = cond (used && isCall c (record { slot = i; ids = idsOf d }) && not (w .known)) i (w .slot);
+  slot = cond (used && isCall c (entryOf i d) && not (w .known)) i (w .slot);
 }

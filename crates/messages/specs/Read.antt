@@ -33,17 +33,27 @@ unfoldable pub isCallRequest : List ℕ → ℕ → ℕ → Bool
 isCallRequest s status error =
     bitSet reflectBit (statusAt s status) && bitSet callBit (statusAt s status) && eqb (getD s (error + 9) 0) 0 && eqb (be16At s (error + 10)) 0
 
--- 13: Call ID 0, or a name of no bytes but zeros, or a name length above 32 as received
-unfoldable pub badIdentity : List ℕ → ℕ → ℕ → Bool
-badIdentity s session attribute = eqb (callIdAt s session) 0 || eqb (longSize s attribute) 0 || ltb 32 (nameLength s attribute)
+-- 02, A6: neither of the two IDs, Name Length 0 and Call ID 0
+unfoldable pub isNameless : List ℕ → ℕ → ℕ → Bool
+isNameless s session attribute = eqb (nameLength s attribute) 0 && eqb (callIdAt s session) 0
+
+-- 13: Call ID 0, or a name of no bytes but zeros, or a name length above 32 as received; but an open may have neither ID
+-- (02, A6)
+unfoldable pub badIdentity : List ℕ → Bool → ℕ → ℕ → Bool
+badIdentity s closes session attribute =
+    (closes || not (isNameless s session attribute))
+    && (eqb (callIdAt s session) 0 || eqb (longSize s attribute) 0 || ltb 32 (nameLength s attribute))
 
 -- a Notify: D set closes a call, D clear opens one
+abbrev pub closesAt : List ℕ → ℕ → Bool
+closesAt s status = bitSet deleteBit (statusAt s status)
+
 unfoldable pub notifyOf : List ℕ → Objects → Reading
 notifyOf s v =
     cond (not (notifyComplete v)) (Refused ObjectCount 0 (v .headers))
     (cond (not (isCallRequest s (v .status .at) (v .error .at))) (Unfit NotCallRequest (senderAt s (v .template .at)) (v .headers))
-    (cond (badIdentity s (v .session .at) (v .attribute .at)) (Unfit CallIdentity (senderAt s (v .template .at)) (v .headers))
-    (cond (bitSet deleteBit (statusAt s (v .status .at)))
+    (cond (badIdentity s (closesAt s (v .status .at)) (v .session .at) (v .attribute .at)) (Unfit CallIdentity (senderAt s (v .template .at)) (v .headers))
+    (cond (closesAt s (v .status .at))
     (Read (Close (requestAt s (v .session .at) (v .template .at) (v .identifier .at) (v .attribute .at))) (v .headers))
     (Read (Open (requestAt s (v .session .at) (v .template .at) (v .identifier .at) (v .attribute .at))) (v .headers)))))
 

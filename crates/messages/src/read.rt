@@ -167,13 +167,17 @@ fn is_call_request(s: &[u8], status: usize, error: usize) -> bool
 }
 
 // Test 13: no short Call ID, a name length of more than 32, or a name of no bytes but zeros. A name that is too long is
-// not looked through.
-fn bad_identity(s: &[u8], session: usize, attribute: usize) -> bool
+// not looked through. Only what opens a call may have neither ID.
+fn bad_identity(s: &[u8], closes: bool, session: usize, attribute: usize) -> bool
     requires { ⌜ (session + 16 ≤ length (now s)) × (attribute + 8 + nameLength (now s) attribute ≤ length (now s)) ⌝ }
-    ensures { λ r. ⌜ r ≡ badIdentity (now (s .entry)) session attribute ⌝ }
+    ensures { λ r. ⌜ r ≡ badIdentity (now (s .entry)) closes session attribute ⌝ }
 {
     let call = get16(s, session + 8);
     let name = s[attribute + 7];
+    let nameless = (name == 0) & (call == 0);
+    if !closes & nameless {
+        return false;
+    }
     if 32 < name {
         return true;
     }
@@ -204,7 +208,8 @@ fn read_notify(s: &[u8], v: Objects) -> Reading
             headers,
         };
     }
-    if bad_identity(s, session, attribute) {
+    let closes = bit_set(D, get32(s, status + 4));
+    if bad_identity(s, closes, session, attribute) {
         return Reading::Unfit {
             fault: Fault::CallIdentity,
             sender,
@@ -212,7 +217,7 @@ fn read_notify(s: &[u8], v: Objects) -> Reading
         };
     }
     let request = request_at(s, session, template, v.identifier.at, attribute);
-    if bit_set(D, get32(s, status + 4)) {
+    if closes {
         return Reading::Read {
             message: Message::Close(request),
             headers,

@@ -3,7 +3,8 @@ ghost use mathlib.Core.Path.{_≡_};
 ghost use mathlib.Core.Bool.{true};
 ghost use Prim.Native.Nat.{_≤_};
 ghost use lib.ListN.{length};
-ghost use Rattle.messages.specs.Inside.{Inside};
+ghost use Rattle.messages.specs.Inside.{CallInside, Inside};
+ghost use Rattle.messages.specs.declared.message.Message.the-variants.{Open};
 ghost use Rattle.reply_objects.specs.Buffer.{leastBuffer};
 ghost use Rattle.table.specs.Lists.{roster};
 ghost use Rattle.table.specs.Share.{isListed};
@@ -12,12 +13,14 @@ ghost use Rattle.table.specs.Words.{tableOf};
 ghost use Rattle.spec_calls.specs.Form.{senderOf};
 ghost use Rattle.spec_calls.specs.Handling.{handled};
 ghost use Rattle.outcomes.specs.Outcomes.{handedBack, ruled};
-use answer_call::close_call;
-use answer_call::open_call;
+use answer_call::named::close_call;
+use answer_call::named::open_call;
+use answer_call::nameless::open_nameless;
 use answer_connection::add_connection;
 use answer_connection::drop_connection;
 use answers::answer::Answer;
 use find_call::share::listing_of;
+use messages::message::CallRequest;
 use messages::message::Message;
 use messages::read::Reading;
 use messages::read::read;
@@ -38,13 +41,24 @@ fn sender_of(m: Message) -> u32
     }
 }
 
+// An open with names, or without (02, A6).
+fn open(t: &mut Words, msg: &[u8], q: CallRequest, reply: &mut [u8]) -> Outcome
+    requires { ⌜ (rulesHold (tableOf (now t)) ≡ true) × (isListed (roster (tableOf (now t))) (q .sender) ≡ true) × CallInside (now msg) q × (leastBuffer ≤ length (now reply)) ⌝ }
+    ensures { λ r. ⌜ handedBack r (tableOf (now (t .exit))) (now (reply .exit)) ≡ ruled (tableOf (now (t .entry))) (now (msg .entry)) (now (reply .entry)) (Open q) ⌝ }
+{
+    if q.name.size == 0 {
+        return open_nameless(t, msg, q, reply);
+    }
+    open_call(t, msg, q, reply)
+}
+
 // A message of no fault, by its kind.
 fn handle_message(t: &mut Words, msg: &[u8], m: Message, reply: &mut [u8]) -> Outcome
     requires { ⌜ (rulesHold (tableOf (now t)) ≡ true) × (isListed (roster (tableOf (now t))) (senderOf m) ≡ true) × Inside (now msg) m × (leastBuffer ≤ length (now reply)) ⌝ }
     ensures { λ r. ⌜ handedBack r (tableOf (now (t .exit))) (now (reply .exit)) ≡ ruled (tableOf (now (t .entry))) (now (msg .entry)) (now (reply .entry)) m ⌝ }
 {
     match m {
-        Message::Open(q) => open_call(t, msg, q, reply),
+        Message::Open(q) => open(t, msg, q, reply),
         Message::Close(q) => close_call(t, msg, q, reply),
         Message::Add(c) => add_connection(t, msg, c, reply),
         Message::Drop(c) => drop_connection(t, c, reply),

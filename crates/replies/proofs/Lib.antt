@@ -2,4 +2,5 @@ pub mod Lengths
 pub mod Filled
 pub mod Written
 pub mod WorkedExample
+pub mod WorkedMade
 pub mod Sums

@@ -1,40 +1,15 @@
--- How a message grows at the front of a buffer: first its header, then one writer after another in the tail.
+-- How a message grows at the front of a buffer: its header says the length of the whole.
 -- Assumes nothing.
-use Prim.Native.Nat.{ℕ, _+_, _-_, _≤_}
+use Prim.Native.Nat.{ℕ, _+_}
 use native.Mathlib.Omega.{arith}
-use mathlib.Core.Path.{_≡_, refl, sym, _∙_}
+use mathlib.Core.Path.{_≡_}
 use mathlib.Core.List.{List, _++_}
-use lib.ListN.{length, length-append, length-take, length-drop}
+use lib.ListN.{length}
 use Rattle.numbers.specs.Buffer.{atFront}
-use Rattle.numbers.proofs.Buffer.{backAt, partAt, next}
 use Rattle.reply_objects.specs.Header.{headerBytes}
+use Rattle.reply_objects.proofs.Written.{Written}
 use Rattle.replies.specs.Messages.{beforeChecksum}
-
--- what the next writer is lent
-pub tail-length : (xs : List ℕ) (a : ℕ) → length (partAt xs a) ≡ length xs - a
-tail-length xs a = simp (length-take, length-drop) (omega arith)
-
-pub fits-behind : (a k n : ℕ) → a + k ≤ n → k ≤ n - a
-fits-behind a k n h = omega arith
-
--- xs is the buffer l with the n bytes bs at its front, and the code counts a bytes so far
-pub record Written (xs bs l : List ℕ) (a n : ℕ) : Type 0 where
-  pub is : xs ≡ atFront bs l
-  pub size : length bs ≡ n
-  pub counted : a ≡ n
-
--- the header
-pub begun : {xs l : List ℕ} {r : ℕ} (kind len : ℕ) → (r ≡ 8) × (xs ≡ atFront (headerBytes kind len) l) → Written xs (headerBytes kind len) l r 8
-begun kind len (e, p) = record { is = p; size = refl; counted = e }
-
--- one more writer, of the k bytes cs, in the tail from a
-pub more : {xs ys bs l : List ℕ} {a r n k : ℕ} (cs : List ℕ) → Written xs bs l a n → length cs ≡ k → n + k ≤ length l
-    → (r ≡ k) × (ys ≡ atFront cs (partAt xs a)) → Written (backAt xs a ys) (bs ++ cs) l (a + r) (n + k)
-more {xs} {ys} {bs} {l} {a} cs w e h (q, p) = record {
-  is = next xs ys bs cs l a (w .is) (w .size ∙ sym (w .counted)) (rw (w .counted, e) h) p;
-  size = simp length-append (omega arith);
-  counted = omega arith;
-}
+pub use Rattle.reply_objects.proofs.Written.{tail-length}
 
 -- a header that says the length of the whole, with all objects behind it
 pub complete : {xs l : List ℕ} {r n : ℕ} (kind len : ℕ) (objects : List ℕ) → Written xs (headerBytes kind len ++ objects) l r n → length (beforeChecksum kind objects) ≡ len

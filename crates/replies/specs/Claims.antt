@@ -1,13 +1,14 @@
 -- The checksums of the two messages that the node sends; proved in proofs/Sums.antt.
-use Prim.Native.Nat.{ℕ, _<_}
+use Prim.Native.Nat.{ℕ, _≤_, _<_}
 use mathlib.Core.Path.{_≡_}
 use mathlib.Core.List.{List}
+use lib.ListN.{length}
 use Rattle.numbers.specs.BigEndian.{Bytes}
 use Rattle.numbers.specs.Checksum.{wordsSum}
 use Rattle.reply_objects.specs.declared.writers.ErrorSpec.{ErrorSpec}
 use Rattle.replies.specs.declared.path_err.PathErr.{PathErr}
 use Rattle.replies.specs.declared.notify.Notify.{Notify}
-use Rattle.replies.specs.Messages.{PathErrFits, NotifyFits, pathErrBytes, notifyBytes}
+use Rattle.replies.specs.Messages.{PathErrFits, NotifyFits, pathErrBytes, notifyBytes, notifyMadeBytes}
 
 -- the numbers of a reply fit their fields; the writers' types see to it
 pub record ErrorFits (e : ErrorSpec) : Type 0 where
@@ -28,3 +29,9 @@ PathErrAddsUp = (msg : List ℕ) (e : PathErr) (reply : List ℕ) → Bytes msg 
 
 abbrev pub NotifyAddsUp : Type 0
 NotifyAddsUp = (msg : List ℕ) (n : Notify) (reply : List ℕ) → Bytes msg → NotifyFits msg n reply → NumbersFit n → wordsSum (notifyBytes msg n) ≡ 65535
+
+-- so do those of a reply with the IDs that the node made (02, A6)
+abbrev pub NotifyMadeAddsUp : Type 0
+NotifyMadeAddsUp =
+    (msg : List ℕ) (n : Notify) (reply : List ℕ) (call : ℕ) (name : List ℕ) → Bytes msg → NotifyFits msg n reply → NumbersFit n → call < 0x10000 → Bytes name → length name ≤ 32
+    → wordsSum (notifyMadeBytes msg n call name) ≡ 65535

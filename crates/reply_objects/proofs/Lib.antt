@@ -1,1 +1,5 @@
 pub mod Sums
+pub mod Lengths
+pub mod Written
+pub mod MadeIds
+pub mod WorkedObjects

@@ -23,7 +23,7 @@ use Rattle.lists.proofs.Pairs.{no-two-places}
 use Rattle.table.specs.Table.{Table}
 use Rattle.table.specs.Total.{slots, totalOf}
 use Rattle.table.specs.Word.{isUsed}
-use Rattle.table.specs.Lists.{customerAt, termsOf, listedAt, roster, callAt, idsOf, openAt, entries, Held, Four, callFour, customerFour, placeAt, isTaken, connectionAt, heldPlace, heldIn, heldAt, standaloneAt, held}
+use Rattle.table.specs.Lists.{customerAt, termsOf, listedAt, roster, callAt, entryOf, openAt, entries, Held, Four, callFour, customerFour, placeAt, isTaken, connectionAt, heldPlace, heldIn, heldAt, standaloneAt, held}
 use Rattle.table.specs.Share.{isAt, isListed}
 use Rattle.table.specs.Rules.{badShare, sameAddress, guarantees, acceptable, rosterHolds, unlisted, sameLsp, sameConnection, holds, sendersListed}
 use Rattle.table.proofs.Addresses.{roster-cases}
@@ -144,7 +144,7 @@ module _ (t : Table) (accepted : rosterHolds t ≡ true) where
         let not-in = unlisted (roster t) in
         let none = has-false not-in (entries t) (not-true _ listed) in
         let here : countIf not-in (openAt t i) ≡ bit (not (isListed (roster t) (callAt t i .sender))) =
-        count-element not-in (isUsed (t .occupied) i) (record { slot = i; ids = idsOf (callAt t i) }) ∙ rw u in
+        count-element not-in (isUsed (t .occupied) i) (entryOf i (callAt t i)) ∙ rw u in
         not-false _ (no-bit _ (omega (arith, count-at (openAt t) not-in i slots h)))
 
     all-listed : countIf stranger (held t) ≡ 0

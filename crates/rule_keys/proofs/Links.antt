@@ -98,7 +98,7 @@ last-set : (keys : List ℕ) (n key m k : ℕ) → k ≤ n → lastIn (set keys 
 last-set keys n key m k l =
     last-ext (isOf (set keys n key) m) (isOf keys m) k (λ i b. ap (λ (x : ℕ). eqb (chainOf x) m) (getD-set-other keys n i key 0 (λ (e : i ≡ n). omega arith)))
 
-module _ {heads links keys : List ℕ} {n : ℕ} (key : ℕ) (c : Chained heads links keys n) (fits : key < 4294967296) (room : n < 1232) where
+module _ {heads links keys : List ℕ} {n : ℕ} (key : ℕ) (c : Chained heads links keys n) (fits : key < 4294967296) (room : n < 1432) where
   -- the last key of the chain that the new one is of
   abbrev first : ℕ
   first = getD heads (chainOf key) 0

@@ -19,11 +19,11 @@ use Rattle.table_words.proofs.Alike.{alike-held}
 use Rattle.rule_keys.specs.Chains.{Listed}
 use Rattle.rule_keys.specs.Keys.{heldKeys, callKeys, callKeysAt}
 
-pub nothing-noted : (steps : ℕ) → Listed (replicate 2048 0) (replicate 1232 0) (replicate 1232 0) (record { count = 0; left = steps })
+pub nothing-noted : (steps : ℕ) → Listed (replicate 2048 0) (replicate 1432 0) (replicate 1432 0) (record { count = 0; left = steps })
 unfolding lastBelow
 nothing-noted steps = record {
   chained = record {
-    sized = (length-replicate {A = ℕ} 2048 0, length-replicate {A = ℕ} 1232 0, length-replicate {A = ℕ} 1232 0);
+    sized = (length-replicate {A = ℕ} 2048 0, length-replicate {A = ℕ} 1432 0, length-replicate {A = ℕ} 1432 0);
     head = λ m l. getD-replicate {A = ℕ} 2048 m 0 0 l;
     linked = λ i l. absurd (not-suc-le-zero l);
   };

@@ -4,6 +4,7 @@ use Prim.Native.Nat.{ℕ, _+_}
 use mathlib.Core.Path.{_≡_, sym, ap, ap₂, _∙_}
 use mathlib.Core.List.{List, [], _∷_, _++_, map-append, append-assoc}
 use mathlib.Core.Bool.{true, false}
+use lib.Dec.{eqb}
 use borrow.Author.Tests.{eq-eqb, ne-eqb}
 use Rattle.lists.specs.Below.{elementIf, below}
 use Rattle.lists.proofs.Below.{below-none, below-more}
@@ -14,7 +15,7 @@ use Rattle.table_words.specs.Fours.{placeOfWords, Alike}
 use Rattle.table_words.specs.declared.calls.CallHead.{CallHead}
 use Rattle.table_words.specs.declared.fours.PlaceWords.{PlaceWords}
 use Rattle.table_words.proofs.Alike.{alike-held}
-use Rattle.rule_keys.specs.Keys.{shortKey, longKey, lspKey, heldKeys, callKeys}
+use Rattle.rule_keys.specs.Keys.{shortKey, longKey, requestKey, lspKey, heldKeys, callKeys}
 
 module _ (f : Four) (p : PlaceWords) (j : ℕ) (e : placeOfWords p ≡ placeAt f j) where
   -- the connection that the words are, at an end point
@@ -44,9 +45,10 @@ pub keys-turn : (f : Four) (j : ℕ) (s m n : List ℕ) → m ≡ s ++ heldKeys 
 keys-turn f j s m n p q =
     rw (q, p, below-more (heldPlace f) j, map-append (λ x. lspKey (x .lsp)) (below (heldPlace f) j) (heldPlace f j)) (append-assoc s _ _)
 
--- ---- a call: its two IDs, then its places
+-- ---- a call: its two IDs, its request, then its places
 
 module _ (c : Call) (h : CallHead) (f : Four) (head : h ≡ headOf c) (four : Alike f (callFour c)) where
-  pub call-keys : (short long : ℕ) (s a b r : List ℕ) → short ≡ shortKey (h .endpoint) (h .sender) (h .id .0) → long ≡ longKey (h .endpoint) (h .sender) (c .name)
-      → a ≡ s ++ short ∷ [] → b ≡ a ++ long ∷ [] → r ≡ b ++ heldKeys (heldIn f) → r ≡ s ++ callKeys c
-  call-keys short long s a b r x y p q z = z ∙ rw (q, p, x, y, head, alike-held f (callFour c) four) (simp append-assoc)
+  pub call-keys : (short long : ℕ) (s a b d r : List ℕ) → short ≡ shortKey (h .endpoint) (h .sender) (h .id .0) → long ≡ longKey (h .endpoint) (h .sender) (c .name)
+      → a ≡ s ++ short ∷ [] → b ≡ a ++ long ∷ [] → d ≡ b ++ elementIf (eqb (h .made) 1) (requestKey (h .endpoint) (h .sender) (h .epoch) (h .identifier))
+      → r ≡ d ++ heldKeys (heldIn f) → r ≡ s ++ callKeys c
+  call-keys short long s a b d r x y p q m z = z ∙ rw (m, q, p, x, y, head, alike-held f (callFour c) four) (simp append-assoc)

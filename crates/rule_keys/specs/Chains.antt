@@ -27,7 +27,7 @@ Linked links keys n = (i : ℕ) → i < n → getD links i 0 ≡ lastIn keys (ch
 
 -- the first `n` keys stand in their chains
 pub record Chained (heads links keys : List ℕ) (n : ℕ) : Type 0 where
-  pub sized : (length heads ≡ 2048) × (length links ≡ 1232) × (length keys ≡ 1232)
+  pub sized : (length heads ≡ 2048) × (length links ≡ 1432) × (length keys ≡ 1432)
   pub head : (m : ℕ) → m < 2048 → getD heads m 0 ≡ lastIn keys m n
   pub linked : Linked links keys n
 

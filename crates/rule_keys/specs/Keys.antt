@@ -4,11 +4,11 @@
 use Prim.Native.Nat.{ℕ, _+_, _*_, _%_}
 use mathlib.Core.List.{List, _∷_, _++_, map}
 use lib.Dec.{ltb}
-use Rattle.lists.specs.Below.{listIf, below}
+use Rattle.lists.specs.Below.{elementIf, listIf, below}
 use Rattle.table.specs.Table.{Call, Table}
 use Rattle.table.specs.Total.{slots}
 use Rattle.table.specs.Word.{isUsed}
-use Rattle.table.specs.Lists.{customerAt, callAt, Lsp, Held, callFour, customerFour, heldIn}
+use Rattle.table.specs.Lists.{customerAt, callAt, isMade, Lsp, Held, callFour, customerFour, heldIn}
 use Rattle.table_words.specs.Names.{wordIn}
 
 -- ---- the keys
@@ -41,6 +41,10 @@ shortKey endpoint sender short = (pairSum endpoint sender + short * 203459603) %
 abbrev pub longKey : ℕ → ℕ → List ℕ → ℕ
 longKey endpoint sender name = (pairSum endpoint sender + nameSum name) % 4294967296
 
+-- of a pair's request
+abbrev pub requestKey : ℕ → ℕ → ℕ → ℕ → ℕ
+requestKey endpoint sender epoch identifier = (pairSum endpoint sender + epoch * 231711449 + identifier * 218959117) % 4294967296
+
 -- of a connection
 abbrev pub lspKey : Lsp → ℕ
 lspKey x =
@@ -52,10 +56,14 @@ lspKey x =
 abbrev pub heldKeys : List Held → List ℕ
 heldKeys l = map (λ x. lspKey (x .lsp)) l
 
--- of a call: its two IDs, then its connections
+-- of a call's request, where the node made the call
+abbrev pub requestKeys : Call → List ℕ
+requestKeys c = elementIf (isMade c) (requestKey (c .endpoint) (c .sender) (c .epoch) (c .identifier))
+
+-- of a call: its two IDs, its request, then its connections
 abbrev pub callKeys : Call → List ℕ
 callKeys c =
-    shortKey (c .endpoint) (c .sender) (c .id) ∷ longKey (c .endpoint) (c .sender) (c .name) ∷ heldKeys (heldIn (callFour c))
+    shortKey (c .endpoint) (c .sender) (c .id) ∷ longKey (c .endpoint) (c .sender) (c .name) ∷ requestKeys c ++ heldKeys (heldIn (callFour c))
 
 -- of a slot
 abbrev pub callKeysAt : Table → ℕ → List ℕ

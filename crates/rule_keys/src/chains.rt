@@ -9,12 +9,12 @@ ghost use lib.ListN.{getD, take};
 ghost use Rattle.lists.specs.Count.{has};
 ghost use Rattle.rule_keys.specs.Chains.{chainOf, lastIn, Linked, Chained, Listed};
 
-// There are 2,048 chains, and room for six keys of each of 200 slots and four of each of eight customers.
+// There are 2,048 chains, and room for seven keys of each of 200 slots and four of each of eight customers.
 pub type Heads = [u16; 2048];
 
-pub type Links = [u16; 1232];
+pub type Links = [u16; 1432];
 
-pub type Keys = [u32; 1232];
+pub type Keys = [u32; 1432];
 
 // How many keys are noted, and how many steps back through chains are left.
 pub struct Noted {
@@ -25,7 +25,7 @@ pub struct Noted {
 // Looks for a key in a chain, from its key number `first` back to its first one. It says how many steps are left: none
 // where the key was met, or where there were too few.
 fn walk(keys: &Keys, links: &Links, first: u16, key: u32, steps: usize) -> usize
-    requires { ⌜ (first ≤ 1232) × (first ≡ lastIn (now keys) (chainOf key) first) × Linked (now links) (now keys) first ⌝ }
+    requires { ⌜ (first ≤ 1432) × (first ≡ lastIn (now keys) (chainOf key) first) × Linked (now links) (now keys) first ⌝ }
     ensures { λ r. ⌜ (r ≤ steps) × (0 < r → (i : ℕ) → i < first → getD (now (keys .entry)) i 0 ≡ key → ⊥) ⌝ }
 {
     let mut left = steps;
@@ -50,7 +50,7 @@ fn note(
     key: u32,
     left: usize,
 ) -> usize
-    requires { ⌜ Chained (now heads) (now links) (now keys) n × (n < 1232) ⌝ }
+    requires { ⌜ Chained (now heads) (now links) (now keys) n × (n < 1432) ⌝ }
     ensures { λ r. ⌜ Chained (now (heads .exit)) (now (links .exit)) (now (keys .exit)) (n + 1) × (take (n + 1) (now (keys .exit)) ≡ take n (now (keys .entry)) ++ key ∷ []) × (r ≤ left) × (0 < r → has (eqb key) (take n (now (keys .entry))) ≡ false) ⌝ }
 {
     let m = (key >> 21) as usize;
@@ -63,7 +63,7 @@ fn note(
 
 // Notes a key. There is room for it: whoever asks says why, and begins with no key noted.
 pub fn note_key(heads: &mut Heads, links: &mut Links, keys: &mut Keys, at: Noted, key: u32) -> Noted
-    requires { ⌜ Listed (now heads) (now links) (now keys) at × (at .count < 1232) ⌝ }
+    requires { ⌜ Listed (now heads) (now links) (now keys) at × (at .count < 1432) ⌝ }
     ensures { λ r. ⌜ Listed (now (heads .exit)) (now (links .exit)) (now (keys .exit)) r × (take (r .count) (now (keys .exit)) ≡ take (at .count) (now (keys .entry)) ++ key ∷ []) × (r .count ≡ at .count + 1) ⌝ }
 {
     let n = at.count;

@@ -1,10 +1,10 @@
-// The keys of a call's IDs and of connections: the last 32 bits of sums that cannot overflow.
+// The keys of a call's IDs, of its request and of connections: the last 32 bits of sums that cannot overflow.
 ghost use mathlib.Core.Path.{_≡_};
 ghost use Prim.Native.Nat.{_<_};
 ghost use Rattle.table.specs.Total.{slots};
 ghost use Rattle.table.specs.Lists.{callAt};
 ghost use Rattle.table.specs.Words.{tableOf};
-ghost use Rattle.rule_keys.specs.Keys.{pairSum, wordProduct, nameSum, shortKey, longKey, lspKey};
+ghost use Rattle.rule_keys.specs.Keys.{pairSum, wordProduct, nameSum, shortKey, longKey, requestKey, lspKey};
 use table::layout::Words;
 use table_words::calls::CallHead;
 use table_words::fours::PlaceWords;
@@ -50,6 +50,15 @@ pub fn long_key(c: CallHead, t: &Words, i: usize) -> u32
     ensures { λ r. ⌜ r ≡ longKey (c .endpoint) (c .sender) (callAt (tableOf (now (t .entry))) i .name) ⌝ }
 {
     ((pair_sum(c.endpoint, c.sender) + name_sum(t, i)) % 4294967296) as u32
+}
+
+pub fn request_key(c: CallHead) -> u32
+    ensures { λ r. ⌜ r ≡ requestKey (c .endpoint) (c .sender) (c .epoch) (c .identifier) ⌝ }
+{
+    let sum = pair_sum(c.endpoint, c.sender)
+        + (c.epoch as u64) * 231711449
+        + (c.identifier as u64) * 218959117;
+    (sum % 4294967296) as u32
 }
 
 pub fn lsp_key(endpoint: u32, sender: u32, p: PlaceWords) -> u32

@@ -15,12 +15,12 @@ use Rattle.lists.proofs.Below.{count-element, element-not, below-more, below-ex
 use Rattle.table.specs.Table.{Table}
 use Rattle.table.specs.Total.{slots}
 use Rattle.table.specs.Word.{isUsed}
-use Rattle.table.specs.Lists.{customerAt, Entry, callAt, idsOf, openAt, entries}
+use Rattle.table.specs.Lists.{customerAt, Entry, callAt, entryOf, openAt, entries}
 use Rattle.table.specs.Share.{from, callsOf}
 use Rattle.rule_limits.specs.Tally.{addressesOf, callsEach, tallied}
 
 abbrev entryAt : Table → ℕ → Entry
-entryAt t i = record { slot = i; ids = idsOf (callAt t i) }
+entryAt t i = entryOf i (callAt t i)
 
 -- no slot has more than one call
 pub calls-most : (t : Table) (address i : ℕ) → callsOf (below (openAt t) i) address ≤ i

@@ -15,7 +15,7 @@ use Rattle.table.specs.Table.{Call, Customer, Table}
 use Rattle.table.specs.Total.{slots}
 use Rattle.table.specs.Word.{isUsed, FreeFrom}
 use Rattle.table.specs.Lists.{Four, callAt, callFour, customerFour, placeAt, isTaken}
-use Rattle.table.specs.Rules.{validIds, fourValid, unusedClear, callFreeClear, callClear, customerFreeClear, slotFreeClear, holds, namesAndIds}
+use Rattle.table.specs.Rules.{validIds, fourValid, requestTidy, callFreeClear, callClear, customerFreeClear, slotFreeClear, holds, namesAndIds}
 use Rattle.table_words.specs.Fours.{Alike}
 use Rattle.table_words.specs.Heads.{headOf}
 use Rattle.table_words.specs.declared.calls.CallHead.{CallHead}
@@ -33,11 +33,6 @@ some-size size q =
     (omega arith, ltb-false 32 size (k .1))
 
 -- the tests of an open call, in the code's order and in that of the rules
-in-turn : (x made refreshed epoch identifier four : Bool)
-    → (x && made && refreshed && epoch && identifier && four) ≡ (x && (made && refreshed && epoch && identifier) && four)
-in-turn true made refreshed epoch identifier four = refl
-in-turn false made refreshed epoch identifier four = refl
-
 by-rule : (id zeros last unused four : Bool) → ((id && (zeros && last)) && unused && four) ≡ ((id && last) && (unused && zeros && four))
 by-rule false zeros last unused four = refl
 by-rule true true true unused four = rw (and-true unused)
@@ -63,18 +58,18 @@ module _ (c : Call) (h : CallHead) (e : h ≡ headOf c) where
           sym (rw (lt-leb (c .size) 32 long, and-false (a && not (eqb (c .size) 0))))
 
   -- a name of 1 to 32 bytes
-  pub tidy-by-head : (v n f : Bool) → (eqb (h .size) 0 || ltb 32 (h .size)) ≡ false → v ≡ (not (eqb (h .id .0) 0) && ltb (h .id .0) 0x10000)
-      → n ≡ (zerosAt (c .name) (h .size) (32 - h .size) && not (eqb (getD (c .name) (h .size - 1) 0) 0)) → f ≡ fourValid (callFour c)
-      → (v && n && eqb (h .made) 0 && eqb (h .refreshed) 0 && eqb (h .epoch) 0 && eqb (h .identifier) 0 && f) ≡ (validIds c && callFreeClear c)
+  pub tidy-by-head : (v n u f : Bool) → (eqb (h .size) 0 || ltb 32 (h .size)) ≡ false → v ≡ (not (eqb (h .id .0) 0) && ltb (h .id .0) 0x10000)
+      → n ≡ (zerosAt (c .name) (h .size) (32 - h .size) && not (eqb (getD (c .name) (h .size - 1) 0) 0))
+      → u ≡ (eqb (h .refreshed) 0 && cond (eqb (h .made) 1) (ltb (h .epoch) 0x1000000) (eqb (h .made) 0 && eqb (h .epoch) 0 && eqb (h .identifier) 0))
+      → f ≡ fourValid (callFour c) → (v && n && u && f) ≡ (validIds c && callFreeClear c)
   unfolding validIds callFreeClear
-  tidy-by-head v n f q p m r =
+  tidy-by-head v n u f q p m k r =
       let size = neither (eqb (c .size) 0) (ltb 32 (c .size)) (ap (λ (k : CallHead). eqb (k .size) 0 || ltb 32 (k .size)) (sym e) ∙ q) in
       let a = not (eqb (c .id) 0) && ltb (c .id) 0x10000 in
       let zeros = zerosAt (c .name) (c .size) (32 - c .size) in
       let last = not (eqb (getD (c .name) (c .size - 1) 0) 0) in
-      rw (p, m, r, e, size .0, le-leb (c .size) 32 (ltb-false 32 (c .size) (size .1)), and-true a, and-true a)
-      (in-turn (a && (zeros && last)) (eqb (c .made) 0) (eqb (c .refreshed) 0) (eqb (c .epoch) 0) (eqb (c .identifier) 0) (fourValid (callFour c))
-      ∙ by-rule a zeros last (unusedClear c) (fourValid (callFour c)))
+      rw (p, m, k, r, e, size .0, le-leb (c .size) 32 (ltb-false 32 (c .size) (size .1)), and-true a, and-true a)
+      (by-rule a zeros last (requestTidy c) (fourValid (callFour c)))
 
 -- ---- the slots
 

@@ -20,6 +20,7 @@ use fours::four_valid;
 use occupancy::is_used;
 use occupancy::used_below;
 use table::layout::Words;
+use table_words::calls::CallHead;
 use table_words::calls::call_clear;
 use table_words::calls::call_head;
 use table_words::calls::calls_clear_from;
@@ -32,8 +33,19 @@ use table_words::fours::place_words;
 use table_words::head::listed;
 use table_words::ids::is_call_id;
 
-// An open call: a name of 1 to 32 bytes that ends in a byte that is not zero, a Call ID of sixteen bits that is not 0, and
-// zeros past the name, in what requests A6 and A7 will use and in the places that are not taken.
+// What a call that the node made has of its request, and that any other has zeros there.
+fn request_tidy(c: CallHead) -> bool
+    ensures { λ r. ⌜ r ≡ (eqb (c .refreshed) 0 && cond (eqb (c .made) 1) (ltb (c .epoch) 0x1000000) (eqb (c .made) 0 && eqb (c .epoch) 0 && eqb (c .identifier) 0)) ⌝ }
+{
+    let unused = c.refreshed == 0;
+    if c.made == 1 {
+        return unused & (c.epoch < 16777216);
+    }
+    unused & ((c.made == 0) & (c.epoch == 0) & (c.identifier == 0))
+}
+
+// An open call: a name of 1 to 32 bytes that ends in a byte that is not zero, a Call ID of sixteen bits that is not 0,
+// zeros past the name and in the places that are not taken, and a request only where the node made the call.
 fn call_tidy(masks: &[u32; 64], t: &Words, i: usize) -> bool
     requires { ⌜ (i < slots) × (now masks ≡ pastMasks) ⌝ }
     ensures { λ r. ⌜ r ≡ (validIds (callAt (tableOf (now (t .entry))) i) && callFreeClear (callAt (tableOf (now (t .entry))) i)) ⌝ }
@@ -44,10 +56,7 @@ fn call_tidy(masks: &[u32; 64], t: &Words, i: usize) -> bool
     }
     is_call_id(c.id)
         & ends_at(masks, t, i, c.size as usize)
-        & (c.made == 0)
-        & (c.refreshed == 0)
-        & (c.epoch == 0)
-        & (c.identifier == 0)
+        & request_tidy(c)
         & four_valid(t, call_four(t, i))
 }
 

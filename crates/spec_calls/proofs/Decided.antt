@@ -11,20 +11,20 @@ use borrow.Author.Tests.{eqb-true, eqb-false, eq-eqb, ne-eqb, leb-true, leb-fals
 use Rattle.lists.specs.Count.{countIf, has}
 use Rattle.lists.proofs.Count.{has-true, has-false}
 use Rattle.objects.specs.declared.fields.CallId.{CallId}
+use Rattle.messages.specs.declared.message.CallRequest.{CallRequest}
 use Rattle.messages.specs.declared.message.Connection.{Connection}
 use Rattle.messages.specs.declared.message.Message.the-variants.{Drop}
 use Rattle.table.specs.Table.{Table}
 use Rattle.table.specs.Lists.{Terms, Ids, Entry, Lsp, Held}
-use Rattle.table.specs.Share.{isListed, guaranteeOf, limitOf, from, callsOf, S}
+use Rattle.table.specs.Share.{guaranteeOf, limitOf, from, callsOf, S}
 use Rattle.table.specs.Rules.{sameShort, sameLong, isLsp, sameConnection}
 use Rattle.spec_changes.specs.Calls.{isCall}
 use Rattle.spec_changes.specs.Connections.{sameFour, isCallOf, isUnder, callMissing}
 use Rattle.spec_changes.proofs.Share.{S-same}
-use Rattle.spec_changes.proofs.Kept.{MayOpen}
 use Rattle.answers.specs.declared.answer.Answer.{Answer}
 use Rattle.answers.specs.declared.answer.Answer.the-variants.{UnderOtherCall, NotHeld, CallOpened, CallAlreadyOpen, CallClosed, ConnectionAdded, ConnectionAlreadyHeld, ConnectionRemoved, CallIdContention, DuplicateCall, ConnectionsStillExist, UnknownCall, NoShare, PathUnknownCall, NoPlaceLeft}
 use Rattle.answers.specs.Answers.{is}
-use Rattle.spec_calls.specs.CallRules.{isOpen, shortInUse, longInUse, shareUsedUp, openAnswer, closeAnswer}
+use Rattle.spec_calls.specs.CallRules.{idsIn, isNamedBy, isOpen, isRetry, shortTaken, longTaken, shareUsedUp, openAnswer, closeAnswer}
 use Rattle.spec_calls.specs.PathRules.{underOther, addAnswer, dropAnswer}
 use Rattle.spec_calls.specs.Handling.{ruleAnswer}
 
@@ -39,26 +39,28 @@ pub share-no-room : (total : ℕ) (r : List Terms) (l : List Entry) (a : ℕ) �
 unfolding shareUsedUp
 share-no-room total r l a g h = rw (le-leb (guaranteeOf r a) (callsOf l a) g, eq-eqb (S r l) total h) (or-true (eqb (callsOf l a) (limitOf r a)))
 
-module _ (total : ℕ) (r : List Terms) (l : List Entry) (c : Ids) where
-  -- 21: both IDs name one call of the pair
-  pub open-again : isOpen l c ≡ true → openAnswer total r l c ≡ CallAlreadyOpen
+module _ (total : ℕ) (r : List Terms) (l : List Entry) (s : List ℕ) (q : CallRequest) where
+  -- 21: its call is open
+  pub open-again : isRetry l s q ≡ true → openAnswer total r l s q ≡ CallAlreadyOpen
   unfolding openAnswer
   open-again h = rw h
 
   -- 31 comes before 30
-  pub open-duplicate : isOpen l c ≡ false → longInUse l c ≡ true → openAnswer total r l c ≡ DuplicateCall
+  pub open-duplicate : isRetry l s q ≡ false → longTaken l s q ≡ true → openAnswer total r l s q ≡ DuplicateCall
   unfolding openAnswer
   open-duplicate h k = rw (h, k)
 
-  pub open-contention : isOpen l c ≡ false → longInUse l c ≡ false → shortInUse l c ≡ true → openAnswer total r l c ≡ CallIdContention
+  pub open-contention : isRetry l s q ≡ false → longTaken l s q ≡ false → shortTaken l s q ≡ true → openAnswer total r l s q ≡ CallIdContention
   unfolding openAnswer
   open-contention h k m = rw (h, k, m)
 
-  pub open-no-share : isOpen l c ≡ false → longInUse l c ≡ false → shortInUse l c ≡ false → shareUsedUp total r l (c .sender) ≡ true → openAnswer total r l c ≡ NoShare
+  pub open-no-share : isRetry l s q ≡ false → longTaken l s q ≡ false → shortTaken l s q ≡ false → shareUsedUp total r l (q .sender) ≡ true
+      → openAnswer total r l s q ≡ NoShare
   unfolding openAnswer
   open-no-share h k m n = rw (h, k, m, n)
 
-  pub open-new : isOpen l c ≡ false → longInUse l c ≡ false → shortInUse l c ≡ false → shareUsedUp total r l (c .sender) ≡ false → openAnswer total r l c ≡ CallOpened
+  pub open-new : isRetry l s q ≡ false → longTaken l s q ≡ false → shortTaken l s q ≡ false → shareUsedUp total r l (q .sender) ≡ false
+      → openAnswer total r l s q ≡ CallOpened
   unfolding openAnswer
   open-new h k m n = rw (h, k, m, n)
 
@@ -116,12 +118,12 @@ drop-whatever-call t s c other = refl
 abbrev pub openBy : Bool → Bool → Bool → Bool → Answer
 openBy known long short share = cond known CallAlreadyOpen (cond long DuplicateCall (cond short CallIdContention (cond share NoShare CallOpened)))
 
-opens : (a b c d : Bool) → is 20 (openBy a b c d) ≡ true → (b ≡ false) × (c ≡ false) × (d ≡ false)
-opens true b c d h = (cc, cc, cc)
-opens false true c d h = (cc, cc, cc)
-opens false false true d h = (cc, cc, cc)
-opens false false false true h = (cc, cc, cc)
-opens false false false false h = (refl, refl, refl)
+opens : (a b c d : Bool) → is 20 (openBy a b c d) ≡ true → (a ≡ false) × (b ≡ false) × (c ≡ false) × (d ≡ false)
+opens true b c d h = (cc, cc, cc, cc)
+opens false true c d h = (cc, cc, cc, cc)
+opens false false true d h = (cc, cc, cc, cc)
+opens false false false true h = (cc, cc, cc, cc)
+opens false false false false h = (refl, refl, refl, refl)
 
 never-open : (n : ℕ) → is n CallAlreadyOpen ≡ false → is n DuplicateCall ≡ false → is n CallIdContention ≡ false → is n NoShare ≡ false → is n CallOpened ≡ false
     → (a b c d : Bool) → is n (openBy a b c d) ≡ false
@@ -152,27 +154,25 @@ share-says total r l a b h =
     by false false z true p q s h = let n : _≡_ {A = ℕ} 0 1 = cc in inl (omega arith)
     by false false z false p q s h = (eqb-false _ _ p, inl (leb-false _ _ q))
 
-module _ (total : ℕ) (r : List Terms) (l : List Entry) (c : Ids) where
-  -- 20 is given only where the call may be opened
-  pub may-open : isListed r (c .sender) ≡ true → is 20 (openAnswer total r l c) ≡ true → MayOpen total r l c
-  unfolding openAnswer ShareSays
-  may-open known h =
-      let k = opens (isOpen l c) (longInUse l c) (shortInUse l c) (shareUsedUp total r l (c .sender)) h in
-      let s = share-says total r l (c .sender) false (k .2) in
-      record { known = known; newShort = has-false _ l (k .1); newLong = has-false _ l (k .0); under = s .0; share = s .1 }
+module _ (total : ℕ) (r : List Terms) (l : List Entry) (s : List ℕ) (q : CallRequest) where
+  -- what 20 says of the tests before it
+  pub open-says : is 20 (openAnswer total r l s q) ≡ true
+      → (isRetry l s q ≡ false) × (longTaken l s q ≡ false) × (shortTaken l s q ≡ false) × (shareUsedUp total r l (q .sender) ≡ false)
+  unfolding openAnswer
+  open-says h = opens (isRetry l s q) (longTaken l s q) (shortTaken l s q) (shareUsedUp total r l (q .sender)) h
 
   -- a number that is none of an open's answers
   pub open-never : (n : ℕ) → is n CallAlreadyOpen ≡ false → is n DuplicateCall ≡ false → is n CallIdContention ≡ false → is n NoShare ≡ false → is n CallOpened ≡ false
-      → is n (openAnswer total r l c) ≡ false
+      → is n (openAnswer total r l s q) ≡ false
   unfolding openAnswer
-  open-never n f1 f2 f3 f4 f5 = never-open n f1 f2 f3 f4 f5 (isOpen l c) (longInUse l c) (shortInUse l c) (shareUsedUp total r l (c .sender))
+  open-never n f1 f2 f3 f4 f5 = never-open n f1 f2 f3 f4 f5 (isRetry l s q) (longTaken l s q) (shortTaken l s q) (shareUsedUp total r l (q .sender))
 
 -- the answer to an open goes by the counts alone
-pub open-same : (total : ℕ) (r : List Terms) (l k : List Entry) (c : Ids) → ((p : Entry → Bool) → countIf p l ≡ countIf p k)
-    → openAnswer total r l c ≡ openAnswer total r k c
+pub open-same : (total : ℕ) (r : List Terms) (l k : List Entry) (s : List ℕ) (q : CallRequest) → ((p : Entry → Bool) → countIf p l ≡ countIf p k)
+    → openAnswer total r l s q ≡ openAnswer total r k s q
 unfolding openAnswer shareUsedUp
-open-same total r l k c h =
-    rw (h (isCall c), h (λ e. sameLong c (e .ids)), h (λ e. sameShort c (e .ids)), h (from (c .sender)), S-same r l k h)
+open-same total r l k s q h =
+    rw (h (isNamedBy s q), h (λ e. sameLong (idsIn s q) (e .ids)), h (λ e. sameShort (idsIn s q) (e .ids)), h (from (q .sender)), S-same r l k h)
 
 -- ---- close
 

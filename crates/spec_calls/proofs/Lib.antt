@@ -1,4 +1,12 @@
 pub mod Decided
+pub mod Opening
+pub mod Answered
+pub mod Nameless
+pub mod Sent
 pub mod Ruled
 pub mod Names
 pub mod WorkedReplies
+pub mod ComputedIds
+pub mod MadeName
+pub mod MadeFree
+pub mod MadeSame

@@ -2,7 +2,7 @@
 -- afterwards. The answer is decided first; table and reply follow from it.
 use Prim.Native.Nat.{ℕ, _+_}
 use mathlib.Core.List.{List, []}
-use mathlib.Core.Bool.{cond, not}
+use mathlib.Core.Bool.{cond, not, _&&_}
 use lib.ListN.{length}
 use Rattle.numbers.specs.Buffer.{atFront}
 use Rattle.objects.specs.declared.fields.MessageId.{MessageId}
@@ -14,25 +14,26 @@ use Rattle.messages.specs.Status.{callBit, deleteBit}
 use Rattle.replies.specs.declared.notify.Notify.{Notify}
 use Rattle.replies.specs.declared.path_err.PathErr.{PathErr}
 use Rattle.reply_objects.specs.declared.writers.ErrorSpec.{ErrorSpec}
-use Rattle.replies.specs.Messages.{notifyBytes, pathErrBytes}
+use Rattle.replies.specs.Messages.{notifyBytes, notifyMadeBytes, pathErrBytes}
 use Rattle.table.specs.Table.{Table}
 use Rattle.table.specs.Total.{totalOf}
-use Rattle.table.specs.Lists.{roster, entries, held}
+use Rattle.table.specs.Lists.{roster, Ids, callAt, idsOf, entries, held}
 use Rattle.table.specs.Rules.{rulesHold}
-use Rattle.spec_changes.specs.Calls.{opened, closed, identifierTaken}
+use Rattle.spec_changes.specs.Calls.{opened, slotOf, closed, identifierTaken}
 use Rattle.spec_changes.specs.Connections.{added, removed}
 use Rattle.answers.specs.declared.answer.Answer.{Answer}
 use Rattle.answers.specs.declared.answer.Answer.the-variants.{TableBroken}
 use Rattle.answers.specs.Answers.{is, errorCode, errorValue, sendsNotify, sendsPathErr}
 use Rattle.spec_calls.specs.Form.{Form, faulty, sound, formOf}
-use Rattle.spec_calls.specs.CallRules.{idsIn, openAnswer, closeAnswer}
+use Rattle.spec_calls.specs.CallRules.{idsIn, nameless, isNamedBy, openAnswer, closeAnswer}
+use Rattle.spec_calls.specs.Made.{newFor}
 use Rattle.spec_calls.specs.PathRules.{lspOf, heldBy, addAnswer, dropAnswer}
 
 -- ---- the answer
 
 -- a message of no fault, by its kind
 abbrev pub ruleAnswer : Table → List ℕ → Message → Answer
-ruleAnswer t s (Open q) = openAnswer (totalOf t) (roster t) (entries t) (idsIn s q)
+ruleAnswer t s (Open q) = openAnswer (totalOf t) (roster t) (entries t) s q
 ruleAnswer t s (Close q) = closeAnswer (entries t) (held t) (idsIn s q)
 ruleAnswer t s (Add c) = addAnswer (entries t) (held t) (heldBy c)
 ruleAnswer t s (Drop c) = dropAnswer (held t) (lspOf (c .lsp))
@@ -53,7 +54,7 @@ answerOf t s room = cond (not (rulesHold t)) TableBroken (answerFrom2 t s room)
 
 -- 20, 22, 23 and 25 change calls or connections, and no other answer does
 abbrev pub changedBy : Table → List ℕ → Message → Answer → Table
-changedBy t s (Open q) a = cond (is 20 a) (opened t (idsIn s q)) t
+changedBy t s (Open q) a = cond (is 20 a) (opened t (newFor (entries t) s q)) t
 changedBy t s (Close q) a = cond (is 22 a) (closed t (idsIn s q)) t
 changedBy t s (Add c) a = cond (is 23 a) (added t (heldBy c)) t
 changedBy t s (Drop c) a = cond (is 25 a) (removed t (lspOf (c .lsp))) t
@@ -93,9 +94,20 @@ notifyFor node own q status a = record {
 abbrev pub pathErrFor : ℕ → Connection → Answer → PathErr
 pathErrFor node c a = record { session = c .session; error = errorFor node a; template = c .template }
 
--- C for an open, C and D for a close
+-- 02, A6: the IDs that answers 20 and 21 to an open without names carry: those of the call that it is for
+abbrev pub answeredIds : Table → List ℕ → CallRequest → Answer → Ids
+answeredIds t s q a = cond (is 20 a) (newFor (entries t) s q .ids) (idsOf (callAt t (slotOf t (isNamedBy s q))))
+
+-- C for an open. Without names its SESSION and SESSION_ATTRIBUTE carry the call's IDs, but for 34, which has no call
+abbrev pub openReply : Table → List ℕ → CallRequest → Answer → List ℕ
+openReply t s q a =
+    cond (nameless q && not (is 34 a))
+    (notifyMadeBytes s (notifyFor (t .address) (ownId t) q callBit a) (answeredIds t s q a .short) (answeredIds t s q a .long))
+    (notifyBytes s (notifyFor (t .address) (ownId t) q callBit a))
+
+-- C and D for a close
 abbrev pub replyTo : Table → List ℕ → Message → Answer → List ℕ
-replyTo t s (Open q) a = cond (sendsNotify a) (notifyBytes s (notifyFor (t .address) (ownId t) q callBit a)) []
+replyTo t s (Open q) a = cond (sendsNotify a) (openReply t s q a) []
 replyTo t s (Close q) a = cond (sendsNotify a) (notifyBytes s (notifyFor (t .address) (ownId t) q (callBit + deleteBit) a)) []
 replyTo t s (Add c) a = cond (sendsPathErr a) (pathErrBytes s (pathErrFor (t .address) c a)) []
 replyTo t s (Drop c) a = []

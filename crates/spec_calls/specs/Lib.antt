@@ -1,4 +1,5 @@
 pub mod Form
 pub mod CallRules
+pub mod Made
 pub mod PathRules
 pub mod Handling

@@ -17,7 +17,7 @@ use Rattle.lists.proofs.Below.{count-element, has-element}
 use Rattle.lists.proofs.Search.{Found, place-found}
 use Rattle.table.specs.Table.{Call, Customer, Table}
 use Rattle.table.specs.Zeros.{noPlace, pastCustomer}
-use Rattle.table.specs.Lists.{customerAt, termsOf, listedAt, roster, Entry, callAt, idsOf, entries, Held, Four, callFour, customerFour, placeAt, isTaken, connectionAt, heldPlace, held}
+use Rattle.table.specs.Lists.{customerAt, termsOf, listedAt, roster, Entry, callAt, entryOf, entries, Held, Four, callFour, customerFour, placeAt, isTaken, connectionAt, heldPlace, held}
 use Rattle.table.specs.Share.{isAt, isListed}
 use Rattle.table.specs.Rules.{sameConnection, placeValid}
 use Rattle.table.specs.Stores.{withPlace, withStandalonePlace}
@@ -75,7 +75,7 @@ module _ (x : Held) (c : Customer) (none : x .call ≡ 0) (own : x .lsp .sender 
 
 -- ---- under a call: what stands there
 
-module _ (x : Held) (c : Call) (i : ℕ) (h : isCallOf x (record { slot = i; ids = idsOf c }) ≡ true) where
+module _ (x : Held) (c : Call) (i : ℕ) (h : isCallOf x (entryOf i c) ≡ true) where
   of-call : (x .call ≡ c .id) × (x .lsp .endpoint ≡ c .endpoint) × (x .lsp .sender ≡ c .sender)
   of-call =
       let k = both (eqb (x .call) (c .id) && eqb (x .lsp .endpoint) (c .endpoint)) (eqb (x .lsp .sender) (c .sender)) h in

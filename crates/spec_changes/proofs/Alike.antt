@@ -4,12 +4,12 @@
 use Prim.Native.Nat.{ℕ}
 use mathlib.Core.Path.{_≡_, refl, ap}
 use mathlib.Core.List.{List, [], _∷_}
-use mathlib.Core.Bool.{true}
+use mathlib.Core.Bool.{true, _&&_}
 use lib.Dec.{eqb}
 use borrow.Author.Tests.{eqb-true, eq-eqb}
 use Rattle.lists.proofs.Tests.{both}
-use Rattle.table.specs.Lists.{Ids, Lsp, Held}
-use Rattle.table.specs.Rules.{sameBytes, samePair, sameShort, sameLong, sameLsp, sameConnection}
+use Rattle.table.specs.Lists.{Ids, Entry, Lsp, Held}
+use Rattle.table.specs.Rules.{sameBytes, samePair, sameShort, sameLong, sameRequest, sameLsp, sameConnection}
 use Rattle.table.proofs.SameBytes.{same-bytes}
 
 -- ---- to itself
@@ -50,6 +50,32 @@ long-alike c d x h =
     let k = both (samePair c d) (sameBytes (c .long) (d .long)) h in
     let m = both (eqb (c .endpoint) (d .endpoint)) (eqb (c .sender) (d .sender)) (k .0) in
     rw (eqb-true (c .endpoint) (d .endpoint) (m .0), eqb-true (c .sender) (d .sender) (m .1), same-bytes (c .long) (d .long) (k .1))
+
+-- a request that is the same as any is the same as itself: one of the two calls may be one that the node did not make
+pub request-self : (e f : Entry) → sameRequest e f ≡ true → sameRequest e e ≡ true
+unfolding sameRequest
+request-self e f h =
+    let k = both _ (eqb (e .request .identifier) (f .request .identifier)) h in
+    let l = both _ (eqb (e .request .epoch) (f .request .epoch)) (k .0) in
+    let m = both (e .made && f .made) (samePair (e .ids) (f .ids)) (l .0) in
+    rw (both (e .made) (f .made) (m .0) .0, self (e .ids .endpoint), self (e .ids .sender), self (e .request .epoch), self (e .request .identifier))
+
+pub request-alike : (e f x : Entry) → sameRequest e f ≡ true → sameRequest e x ≡ sameRequest f x
+unfolding sameRequest
+request-alike e f x h =
+    let k = both _ (eqb (e .request .identifier) (f .request .identifier)) h in
+    let l = both _ (eqb (e .request .epoch) (f .request .epoch)) (k .0) in
+    let m = both (e .made && f .made) (samePair (e .ids) (f .ids)) (l .0) in
+    let n = both (eqb (e .ids .endpoint) (f .ids .endpoint)) (eqb (e .ids .sender) (f .ids .sender)) (m .1) in
+    let made = both (e .made) (f .made) (m .0) in
+    rw (
+      made .0,
+      made .1,
+      eqb-true (e .ids .endpoint) (f .ids .endpoint) (n .0),
+      eqb-true (e .ids .sender) (f .ids .sender) (n .1),
+      eqb-true (e .request .epoch) (f .request .epoch) (l .1),
+      eqb-true (e .request .identifier) (f .request .identifier) (k .1),
+    )
 
 -- the same in all that a connection is known by is equal
 pub lsp-equal : (x y : Lsp) → sameLsp x y ≡ true → x ≡ y

@@ -12,13 +12,13 @@ use Rattle.lists.proofs.Below.{count-element, count-at}
 use Rattle.table.specs.Table.{Call, Table}
 use Rattle.table.specs.Total.{slots}
 use Rattle.table.specs.Word.{isUsed}
-use Rattle.table.specs.Lists.{Entry, idsOf, callAt, openAt, entries, callFour, connectionAt, held}
+use Rattle.table.specs.Lists.{Entry, entryOf, callAt, openAt, entries, callFour, connectionAt, held}
 use Rattle.spec_changes.specs.Connections.{isCallOf, callMissing}
 use Rattle.spec_changes.proofs.Everywhere.{none-held}
 
 -- ---- the connections of a slot, and those of Call ID 0
 
-own-call : (c : Call) (j i : ℕ) → isCallOf (connectionAt (callFour c) j) (record { slot = i; ids = idsOf c }) ≡ true
+own-call : (c : Call) (j i : ℕ) → isCallOf (connectionAt (callFour c) j) (entryOf i c) ≡ true
 own-call c j i = rw (eq-eqb (c .id) (c .id) refl, eq-eqb (c .endpoint) (c .endpoint) refl, eq-eqb (c .sender) (c .sender) refl)
 
 -- a used slot's call is the call of what stands under it
@@ -29,7 +29,7 @@ has-call t i l u j = true-has test (entries t) (omega (arith, count-at (openAt t
     test = isCallOf (connectionAt (callFour (callAt t i)) j)
 
     here : countIf test (openAt t i) ≡ 1
-    here = count-element test (isUsed (t .occupied) i) (record { slot = i; ids = idsOf (callAt t i) }) ∙ rw (u, own-call (callAt t i) j i)
+    here = count-element test (isUsed (t .occupied) i) (entryOf i (callAt t i)) ∙ rw (u, own-call (callAt t i) j i)
 
 -- no connection of any table is without its call
 pub no-call-missing : (t : Table) → has (callMissing (entries t)) (held t) ≡ false

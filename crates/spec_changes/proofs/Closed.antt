@@ -16,7 +16,7 @@ use Rattle.table.specs.Table.{Call, Table}
 use Rattle.table.specs.Total.{slots, totalOf}
 use Rattle.table.specs.Word.{isUsed, withFree}
 use Rattle.table.specs.Zeros.{noCall}
-use Rattle.table.specs.Lists.{roster, Ids, Entry, callAt, idsOf, entries, Held, callFour, placeAt, isTaken, connectionAt, heldIn, held}
+use Rattle.table.specs.Lists.{roster, Ids, Entry, callAt, idsOf, entryOf, entries, Held, callFour, placeAt, isTaken, connectionAt, heldIn, held}
 use Rattle.table.specs.Rules.{rosterHolds, samePair, sameShort, sameLong, sameConnection}
 use Rattle.table.proofs.Fresh.{free-clear}
 use Rattle.table.proofs.Slots.{free-here, free-other, free-fits}
@@ -43,7 +43,7 @@ module _ (t : Table) (c : Ids) (s : Shape t) (h : 0 < countIf (isCall c) (entrie
 
   -- the slot found is used by the call
   pub closed-slot : (slotOf t (isCall c) < slots) × (isUsed (t .occupied) (slotOf t (isCall c)) ≡ true)
-      × (isCall c (record { slot = slotOf t (isCall c); ids = idsOf (callAt t (slotOf t (isCall c))) }) ≡ true)
+      × (isCall c (entryOf (slotOf t (isCall c)) (callAt t (slotOf t (isCall c)))) ≡ true)
   closed-slot = found-slot t (isCall c) h
 
   inside : slot < slots
@@ -63,7 +63,7 @@ module _ (t : Table) (c : Ids) (s : Shape t) (h : 0 < countIf (isCall c) (entrie
 
   -- one entry less
   pub closed-entries : (p : Entry → Bool)
-      → countIf p (entries t) ≡ bit (p (record { slot = slotOf t (isCall c); ids = idsOf (callAt t (slotOf t (isCall c))) })) + countIf p (entries (closed t c))
+      → countIf p (entries t) ≡ bit (p (entryOf (slotOf t (isCall c)) (callAt t (slotOf t (isCall c))))) + countIf p (entries (closed t c))
   unfolding closed
   closed-entries p = omega (arith, (rw (was, is) at (slot-entries t words slot noCall inside (s .calls) other p)))
 

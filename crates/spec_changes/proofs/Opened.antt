@@ -21,15 +21,15 @@ use Rattle.lists.proofs.Below.{count-element, below-ext, below-nothing, below-o
 use Rattle.table.specs.Table.{Call, Table}
 use Rattle.table.specs.Total.{slots, totalOf}
 use Rattle.table.specs.Word.{bits, isUsed, lowestFree, withUsed}
-use Rattle.table.specs.Lists.{roster, Ids, Entry, callAt, idsOf, openAt, entries, Held, callFour, heldIn, held}
+use Rattle.table.specs.Lists.{roster, Entry, callAt, idsOf, entryOf, openAt, entries, Held, callFour, heldIn, held}
 use Rattle.table.specs.Share.{isAt}
-use Rattle.table.specs.Rules.{rosterHolds, validIds, sameConnection, placeClear, placeValid, callFreeClear}
+use Rattle.table.specs.Rules.{rosterHolds, validIds, sameConnection, placeClear, placeValid, requestTidy, callFreeClear}
 use Rattle.table.specs.Stores.{withSlot}
 use Rattle.table.proofs.Fresh.{zero-at}
 use Rattle.table.proofs.Slots.{lowest-below, lowest-here, used-here, used-other, used-fits, open-rest}
 use Rattle.table.proofs.Within.{total-most}
 use Rattle.spec_changes.specs.Shape.{Shape}
-use Rattle.spec_changes.specs.Calls.{stored, opened}
+use Rattle.spec_changes.specs.Calls.{New, entryFor, stored, opened}
 use Rattle.spec_changes.proofs.Valid.{named-ids}
 use Rattle.spec_changes.proofs.Kept.{Kept, MayOpen, room-for, calls-open}
 use Rattle.spec_changes.proofs.Slot.{slot-entries, slot-held, slot-names, slot-within, slot-free-clear, slot-shape}
@@ -37,7 +37,7 @@ use Rattle.spec_changes.proofs.Slot.{slot-entries, slot-held, slot-name
 -- ---- the slots
 
 abbrev entryAt : Table → ℕ → Entry
-entryAt t i = record { slot = i; ids = idsOf (callAt t i) }
+entryAt t i = entryOf i (callAt t i)
 
 abbrev inSlot : ℕ → Entry → Bool
 inSlot j e = eqb j (e .slot)
@@ -91,8 +91,16 @@ abbrev zeros : ℕ → List ℕ
 zeros n = replicate n 0
 
 -- a stored call is read back
-pub stored-ids : (c : Ids) → idsOf (stored c) ≡ c
-stored-ids c = rw (front-taken (c .long) (zeros 32) (length (c .long)) refl)
+pub stored-ids : (c : New) → idsOf (stored c) ≡ c .ids
+stored-ids c = rw (front-taken (c .ids .long) (zeros 32) (length (c .ids .long)) refl)
+
+-- so are its mark and its request
+pub stored-entry : (i : ℕ) (c : New) → entryOf i (stored c) ≡ entryFor i c
+stored-entry i c = rw (stored-ids c) (by (c .made))
+  where
+    by : (b : Bool) → _≡_ {A = Entry} (record { slot = i; ids = c .ids; made = eqb (bit b) 1; request = c .request }) (record { slot = i; ids = c .ids; made = b; request = c .request })
+    by true = refl
+    by false = refl
 
 zeros-behind : (x : List ℕ) (i n : ℕ) → zerosAt (atFront x (zeros 32)) (length x + i) n ≡ true
 unfolding zerosAt atFront
@@ -101,22 +109,22 @@ zeros-behind x i (suc n) =
     rw (getD-append-add x (drop (length x) (zeros 32)) i 0, getD-drop (length x) (zeros 32) i 0, zero-at 32 (length x + i), add-assoc)
     (zeros-behind x (i + 1) n)
 
-stored-free-clear : (c : Ids) → callFreeClear (stored c) ≡ true
+stored-free-clear : (c : New) → requestTidy (stored c) ≡ true → callFreeClear (stored c) ≡ true
 unfolding callFreeClear everyBelow placeClear placeValid
-stored-free-clear c = rw (rw add-zero at (zeros-behind (c .long) 0 (32 - length (c .long))))
+stored-free-clear c h = rw (h, (rw add-zero at (zeros-behind (c .ids .long) 0 (32 - length (c .ids .long)))))
 
-none-under : (c : Ids) → heldIn (callFour (stored c)) ≡ []
+none-under : (c : New) → heldIn (callFour (stored c)) ≡ []
 unfolding below elementIf
 none-under c = refl
 
 -- ---- the table
 
 -- the roster's form stays
-pub opened-form : (t : Table) (c : Ids) → opened t c .form ≡ t .form
+pub opened-form : (t : Table) (c : New) → opened t c .form ≡ t .form
 unfolding opened
 opened-form t c = refl
 
-module _ (t : Table) (c : Ids) (s : Shape t) (free : lowestFree (t .occupied) < totalOf t) where
+module _ (t : Table) (c : New) (s : Shape t) (free : lowestFree (t .occupied) < totalOf t) where
   abbrev slot : ℕ
   slot = lowestFree (t .occupied)
 
@@ -140,9 +148,9 @@ module _ (t : Table) (c : Ids) (s : Shape t) (free : lowestFree (t .occupied) < 
 
   -- one entry more
   pub opened-entries : (p : Entry → Bool)
-      → countIf p (entries (opened t c)) ≡ bit (p (record { slot = lowestFree (t .occupied); ids = c })) + countIf p (entries t)
+      → countIf p (entries (opened t c)) ≡ bit (p (entryFor (lowestFree (t .occupied)) c)) + countIf p (entries t)
   unfolding opened
-  opened-entries p = omega (arith, (rw (was, is, stored-ids c) at (slot-entries t words slot (stored c) inside (s .calls) other p)))
+  opened-entries p = omega (arith, (rw (was, is, stored-entry slot c) at (slot-entries t words slot (stored c) inside (s .calls) other p)))
 
   -- the same connections
   pub opened-held : (p : Held → Bool) → countIf p (held (opened t c)) ≡ countIf p (held t)
@@ -153,29 +161,40 @@ module _ (t : Table) (c : Ids) (s : Shape t) (free : lowestFree (t .occupied) < 
   unfolding opened
   opened-shape = used-shape t slot (stored c) s inside refl
 
-  keeps : Kept t → MayOpen (totalOf t) (roster t) (entries t) c → ((a : ℕ) → countIf (isAt a) (roster t) ≤ 1) → validIds (stored c) ≡ true → Kept (opened t c)
+  keeps : Kept t → MayOpen (totalOf t) (roster t) (entries t) (entryFor slot c) → ((a : ℕ) → countIf (isAt a) (roster t) ≤ 1) → validIds (stored c) ≡ true → requestTidy (stored c) ≡ true → Kept (opened t c)
   unfolding opened rosterHolds
-  keeps k m d n = record {
+  keeps k m d n q = record {
     accepted = k .accepted;
     within = slot-within t words slot (stored c) inside (s .calls) other (totalOf t) (k .within) (λ u. free);
-    calls = calls-open (totalOf t) (roster t) (entries t) c (k .calls) m slot (entries (opened t c)) d opened-entries;
+    calls = calls-open (totalOf t) (roster t) (entries t) (entryFor slot c) (k .calls) m (entries (opened t c)) d opened-entries;
     once = λ x. rw (opened-held (sameConnection x)) (k .once x);
     names = slot-names t words slot (stored c) inside (s .calls) other (k .names) (λ u. n);
-    slots = slot-free-clear t words slot (stored c) inside (s .calls) other (k .slots) (rw is (stored-free-clear c));
+    slots = slot-free-clear t words slot (stored c) inside (s .calls) other (k .slots) (rw is (stored-free-clear c q));
     records = k .records;
   }
 
 -- a name that ends in a byte other than zero does so in its slot
-stored-ends : (c : Ids) → 0 < length (c .long) → ((k : ℕ) → length (c .long) ≡ suc k → getD (c .long) k 0 ≢ 0) → getD (stored c .name) (stored c .size - 1) 0 ≢ 0
+stored-ends : (c : New) → 0 < length (c .ids .long) → ((k : ℕ) → length (c .ids .long) ≡ suc k → getD (c .ids .long) k 0 ≢ 0) → getD (stored c .name) (stored c .size - 1) 0 ≢ 0
 unfolding atFront
 stored-ends c some ends e =
-    let k = length (c .long) - 1 in
-    let n : length (c .long) ≡ suc k = omega arith in
-    ends k n (sym (List·getD-append (c .long) (drop (length (c .long)) (zeros 32)) 0 k (omega (arith, n))) ∙ e)
+    let x = c .ids .long in
+    let k = length x - 1 in
+    let n : length x ≡ suc k = omega arith in
+    ends k n (sym (List·getD-append x (drop (length x) (zeros 32)) 0 k (omega (arith, n))) ∙ e)
+
+-- what a new call must be for its slot: its IDs fit, its name ends in a byte other than zero, and it has a request only
+-- where the node made it
+pub record Fits (c : New) : Type 0 where
+  pub short : 0 < c .ids .short
+  pub sixteen : c .ids .short < 0x10000
+  pub long : 0 < length (c .ids .long)
+  pub most : length (c .ids .long) ≤ 32
+  pub ends : (k : ℕ) → length (c .ids .long) ≡ suc k → getD (c .ids .long) k 0 ≢ 0
+  pub request : requestTidy (stored c) ≡ true
 
 -- every rule
-pub opened-kept : (t : Table) (c : Ids) → Shape t → Kept t → MayOpen (totalOf t) (roster t) (entries t) c → ((a : ℕ) → countIf (isAt a) (roster t) ≤ 1)
-    → 0 < c .short → c .short < 0x10000 → 0 < length (c .long) → length (c .long) ≤ 32 → ((k : ℕ) → length (c .long) ≡ suc k → getD (c .long) k 0 ≢ 0) → Kept (opened t c)
-opened-kept t c s k m d short fits some few ends =
-    keeps t c s (free-slot t k (room-for (totalOf t) (roster t) (entries t) c (k .calls) m)) k m d
-    (named-ids (stored c) (record { some = short; fits = fits; long = some; most = few; ends = stored-ends c some ends }))
+pub opened-kept : (t : Table) (c : New) → Shape t → Kept t → MayOpen (totalOf t) (roster t) (entries t) (entryFor (lowestFree (t .occupied)) c)
+    → ((a : ℕ) → countIf (isAt a) (roster t) ≤ 1) → Fits c → Kept (opened t c)
+opened-kept t c s k m d f =
+    keeps t c s (free-slot t k (room-for (totalOf t) (roster t) (entries t) (entryFor (lowestFree (t .occupied)) c) (k .calls) m)) k m d
+    (named-ids (stored c) (record { some = f .short; fits = f .sixteen; long = f .long; most = f .most; ends = stored-ends c (f .long) (f .ends) })) (f .request)

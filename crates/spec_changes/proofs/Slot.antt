@@ -20,7 +20,7 @@ use Rattle.table.specs.Table.{Call, Table}
 use Rattle.table.specs.Total.{slots}
 use Rattle.table.specs.Word.{bits, isUsed, FourWords}
 use Rattle.table.specs.Zeros.{pastCall}
-use Rattle.table.specs.Lists.{Entry, callAt, idsOf, openAt, entries, Held, callFour, heldIn, heldAt, standaloneAt, held}
+use Rattle.table.specs.Lists.{Entry, callAt, entryOf, openAt, entries, Held, callFour, heldIn, heldAt, standaloneAt, held}
 use Rattle.table.specs.Rules.{validIds, callFreeClear, callClear, slotFreeClear}
 use Rattle.table.specs.Stores.{withSlot}
 use Rattle.spec_changes.specs.Shape.{Shape}
@@ -39,16 +39,16 @@ open-most t = first slots
     first : (n : ℕ) → length (below (openAt t) n) ≤ n
     first zero = omega arith
     first (suc n) =
-        omega (arith, length-append (below (openAt t) n) (openAt t n), first n, element-most {A = Entry} (isUsed (t .occupied) n) (record { slot = n; ids = idsOf (callAt t n) }))
+        omega (arith, length-append (below (openAt t) n) (openAt t n), first n, element-most {A = Entry} (isUsed (t .occupied) n) (entryOf n (callAt t n)))
 
 -- where an open call passes a test, the slot found is used by one that does
 pub found-slot : (t : Table) (p : Entry → Bool) → 0 < countIf p (entries t)
     → (slotOf t p < slots) × (isUsed (t .occupied) (slotOf t p) ≡ true)
-    × (p (record { slot = slotOf t p; ids = idsOf (callAt t (slotOf t p)) }) ≡ true)
+    × (p (entryOf (slotOf t p) (callAt t (slotOf t p))) ≡ true)
 found-slot t p h =
     let k = slotOf t p in
     let f = place-found (openAt t) p slots h in
-    let e : Entry = record { slot = k; ids = idsOf (callAt t k) } in
+    let e : Entry = entryOf k (callAt t k) in
     let u = both (isUsed (t .occupied) k) (p e) (sym (has-element p (isUsed (t .occupied) k) e) ∙ f .passes) in
     (f .inside, u .0, u .1)
 
@@ -81,16 +81,16 @@ module _ (t : Table) (words : List ℕ) (i : ℕ) (c : Call) (inside : i < slots
   -- the words beside it say the same of every other slot
   module _ (other : (j : ℕ) → (j ≡ i → ⊥) → isUsed words j ≡ isUsed (t .occupied) j) where
     pub slot-entries : (p : Entry → Bool)
-        → countIf p (entries (withSlot t words i c)) + bit (isUsed (t .occupied) i && p (record { slot = i; ids = idsOf (callAt t i) }))
-        ≡ countIf p (entries t) + bit (isUsed words i && p (record { slot = i; ids = idsOf c }))
+        → countIf p (entries (withSlot t words i c)) + bit (isUsed (t .occupied) i && p (entryOf i (callAt t i)))
+        ≡ countIf p (entries t) + bit (isUsed words i && p (entryOf i c))
     slot-entries p =
-        let x : Entry = record { slot = i; ids = idsOf (callAt t i) } in
-        let y : Entry = record { slot = i; ids = idsOf (callAt (withSlot t words i c) i) } in
+        let x : Entry = entryOf i (callAt t i) in
+        let y : Entry = entryOf i (callAt (withSlot t words i c) i) in
         omega (
           arith,
           below-one (openAt (withSlot t words i c)) (openAt t) p i slots inside (λ j n. rw (other j n, call-other j n)),
           count-element p (isUsed (t .occupied) i) x,
-          count-element p (isUsed words i) y ∙ ap (λ d. bit (isUsed words i && p (record { slot = i; ids = idsOf d }))) call-here,
+          count-element p (isUsed words i) y ∙ ap (λ d. bit (isUsed words i && p (entryOf i d))) call-here,
         )
 
     pub slot-held : (p : Held → Bool)

@@ -19,10 +19,10 @@ use Rattle.table.specs.Total.{slots, totalOf}
 use Rattle.table.specs.Word.{bits, isUsed}
 use Rattle.table.specs.Lists.{Terms, roster, Entry, callAt, entries, Held, held}
 use Rattle.table.specs.Share.{isAt, isListed, guaranteeOf, limitOf, callsOf, S}
-use Rattle.table.specs.Rules.{badShare, sameAddress, guarantees, acceptable, rosterHolds, unlisted, overLimit, sameShort, sameLong, validIds, sameConnection, slotFreeClear, recordFreeClear, rosterAcceptable, slotsWithinTotal, sendersListed, withinLimits, shareWithinTotal, shortIdsOnce, longIdsOnce, namesAndIds, connectionsOnce, freeHoldsZeros, holds, rulesHold}
+use Rattle.table.specs.Rules.{badShare, sameAddress, guarantees, acceptable, rosterHolds, unlisted, overLimit, sameShort, sameLong, sameRequest, validIds, sameConnection, slotFreeClear, recordFreeClear, rosterAcceptable, slotsWithinTotal, sendersListed, withinLimits, shareWithinTotal, shortIdsOnce, longIdsOnce, requestsOnce, namesAndIds, connectionsOnce, freeHoldsZeros, holds, rulesHold}
 use Rattle.table.proofs.Within.{used-within}
 use Rattle.table.proofs.Addresses.{roster-cases, acceptable-apart}
-use Rattle.spec_changes.proofs.Alike.{self, short-self, long-self, lsp-self, short-alike, long-alike, lsp-alike}
+use Rattle.spec_changes.proofs.Alike.{self, short-self, long-self, lsp-self, short-alike, long-alike, lsp-alike, request-self, request-alike}
 use Rattle.spec_changes.proofs.Kept.{RosterKept, Kept}
 
 -- ---- tests
@@ -115,7 +115,8 @@ rules-kept t h =
     let zeros = both _ (holds freeHoldsZeros t) h in
     let once = both _ (holds connectionsOnce t) (zeros .0) in
     let names = both _ (holds namesAndIds t) (once .0) in
-    let longs = both _ (holds longIdsOnce t) (names .0) in
+    let requests = both _ (holds requestsOnce t) (names .0) in
+    let longs = both _ (holds longIdsOnce t) (requests .0) in
     let shorts = both _ (holds shortIdsOnce t) (longs .0) in
     let room = both _ (holds shareWithinTotal t) (shorts .0) in
     let limits = both _ (holds withinLimits t) (room .0) in
@@ -131,6 +132,7 @@ rules-kept t h =
         room = leb-true (S (roster t) (entries t)) (totalOf t) (room .1);
         shorts = no-two-once sameShort (λ (e : Entry). e .ids) short-alike (entries t) (shorts .1);
         longs = no-two-once sameLong (λ (e : Entry). e .ids) long-alike (entries t) (longs .1);
+        requests = no-two-once sameRequest (λ (e : Entry). e) request-alike (entries t) (requests .1);
       };
       once = no-two-once sameConnection (λ (x : Held). x) lsp-alike (held t) (once .1);
       names = λ i l. named (isUsed (t .occupied) i) (validIds (callAt t i)) (every-at _ slots (names .1) i l);
@@ -148,10 +150,11 @@ kept-rules t k =
       false-has (unlisted (roster t)) (entries t) (k .calls .senders),
       false-has (overLimit (entries t)) (roster t) (over-none (roster t) (entries t) (roster-kept t (k .accepted) .apart) (k .calls .limits)),
       le-leb (S (roster t) (entries t)) (totalOf t) (k .calls .room),
-      once-no-two sameShort (λ (e : Entry). e .ids) short-alike short-self (entries t) (k .calls .shorts),
-      once-no-two sameLong (λ (e : Entry). e .ids) long-alike long-self (entries t) (k .calls .longs),
+      once-no-two sameShort (λ (e : Entry). e .ids) short-alike (λ b c h. short-self b) (entries t) (k .calls .shorts),
+      once-no-two sameLong (λ (e : Entry). e .ids) long-alike (λ b c h. long-self b) (entries t) (k .calls .longs),
+      once-no-two sameRequest (λ (e : Entry). e) request-alike request-self (entries t) (k .calls .requests),
       every-within (λ i. not (isUsed (t .occupied) i) || validIds (callAt t i)) slots (λ i l. said _ _ (k .names i l)),
-      once-no-two sameConnection (λ (x : Held). x) lsp-alike lsp-self (held t) (k .once),
+      once-no-two sameConnection (λ (x : Held). x) lsp-alike (λ x y h. lsp-self x) (held t) (k .once),
       every-within (slotFreeClear t) slots (k .slots),
       every-within (recordFreeClear t) 8 (k .records),
     )

@@ -16,7 +16,7 @@ use Rattle.table.specs.Total.{slots, totalOf}
 use Rattle.table.specs.Word.{isUsed}
 use Rattle.table.specs.Zeros.{noPlace}
 use Rattle.table.specs.Lists.{roster, Entry, callAt, entries, callFour, heldIn, heldAt, standaloneAt}
-use Rattle.table.specs.Rules.{rosterHolds, validIds, unusedClear, placeValid, callFreeClear}
+use Rattle.table.specs.Rules.{rosterHolds, validIds, requestTidy, placeValid, callFreeClear}
 use Rattle.table.specs.Stores.{withSlot, withPlace}
 use Rattle.spec_changes.specs.Shape.{Shape}
 use Rattle.spec_changes.proofs.Kept.{calls-fewer}
@@ -41,7 +41,7 @@ module _ (t : Table) (s : Shape t) (i j : ℕ) (q : Place) (inside : i < slots) 
   under-free-clear : placeValid q ≡ true → callFreeClear c ≡ true → callFreeClear d ≡ true
   unfolding callFreeClear
   under-free-clear new old =
-      let k = both (unusedClear c && zerosAt (c .name) (c .size) (32 - c .size)) _ old in
+      let k = both (requestTidy c && zerosAt (c .name) (c .size) (32 - c .size)) _ old in
       rw (k .0) (places-valid (c .places) j q (s .places i inside) new (k .1))
 
   under-names : validIds c ≡ true → validIds d ≡ true

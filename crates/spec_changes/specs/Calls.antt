@@ -3,7 +3,9 @@ use Prim.Native.Nat.{ℕ}
 use mathlib.Core.Bool.{Bool, _&&_}
 use lib.ListN.{length, replicate}
 use Rattle.numbers.specs.Buffer.{atFront}
+use Rattle.lists.specs.Count.{bit}
 use Rattle.lists.specs.Below.{placeOf}
+use Rattle.objects.specs.declared.fields.MessageId.{MessageId}
 use Rattle.table.specs.Table.{Call, Table}
 use Rattle.table.specs.Total.{slots}
 use Rattle.table.specs.Identifier.{identifierAfter}
@@ -13,23 +15,34 @@ use Rattle.table.specs.Lists.{Ids, Entry, openAt}
 use Rattle.table.specs.Rules.{sameShort, sameLong}
 use Rattle.table.specs.Stores.{withSlot, withNext}
 
+-- a call to be opened: its four, whether the node made them, and the epoch and identifier of the request for which it did
+-- (02, A6)
+pub record New : Type 0 where
+  pub ids : Ids
+  pub made : Bool
+  pub request : MessageId
+
+-- its entry in a slot
+abbrev pub entryFor : ℕ → New → Entry
+entryFor slot c = record { slot = slot; ids = c .ids; made = c .made; request = c .request }
+
 -- a call as a slot holds it (01, Share: name bytes past the length, and free places, hold zeros)
-abbrev pub stored : Ids → Call
+abbrev pub stored : New → Call
 stored c = record {
-  endpoint = c .endpoint;
-  sender = c .sender;
+  endpoint = c .ids .endpoint;
+  sender = c .ids .sender;
   refreshed = 0;
-  epoch = 0;
-  identifier = 0;
-  id = c .short;
-  made = 0;
-  size = length (c .long);
-  name = atFront (c .long) (replicate 32 0);
+  epoch = c .request .epoch;
+  identifier = c .request .identifier;
+  id = c .ids .short;
+  made = bit (c .made);
+  size = length (c .ids .long);
+  name = atFront (c .ids .long) (replicate 32 0);
   places = replicate 4 noPlace;
 }
 
 -- 01, Share: a new call takes the lowest free slot. There is one wherever the answer is 20 (`open-room`).
-unfoldable pub opened : Table → Ids → Table
+unfoldable pub opened : Table → New → Table
 opened t c = withSlot t (withUsed (t .occupied) (lowestFree (t .occupied))) (lowestFree (t .occupied)) (stored c)
 
 -- an entry is the call that has all four

@@ -27,10 +27,10 @@ use Rattle.spec_changes.proofs.Kept.{CallsKept, Kept, calls-fewer}
 use Rattle.spec_changes.proofs.Slot.{call-here, call-other}
 use Rattle.spec_changes.proofs.Opened.{slot-used, used-shape}
 use Rattle.spec_changes.proofs.Told.{kept-rules}
-use Rattle.spec_checkpoint.specs.Layout.{Slotted, callsIn, callRecord}
+use Rattle.spec_checkpoint.specs.Layout.{Slotted, recordEntry, callsIn, callRecord}
 use Rattle.spec_checkpoint.specs.Places.{withoutPlaces}
 use Rattle.spec_checkpoint.specs.Salvage.{placed, soundAlone, namedBy, goesBefore, sameCall, keptByLongId, callFits, withCalls}
-use Rattle.spec_checkpoint.proofs.Part.{entryOf, record-bare, placed-entries, placed-held, placed-kept}
+use Rattle.spec_checkpoint.proofs.Part.{record-bare, placed-entries, placed-held, placed-kept}
 
 -- ---- elements that stand one in each place
 
@@ -69,7 +69,7 @@ pub record Copied (t : Table) (s : List ℕ) : Type 0 where
   pub names : (i : ℕ) → i < callsIn s → validIds (callRecord s i .call) ≡ true
   pub clear : (i : ℕ) → i < callsIn s → callFreeClear (callRecord s i .call) ≡ true
   pub call : (i : ℕ) → i < callsIn s → callRecord s i .call ≡ withoutPlaces (callAt t (callRecord s i .slot))
-  pub all : (p : Entry → Bool) → countIf p (below (λ i. entryOf (callRecord s i) ∷ []) (callsIn s)) ≡ countIf p (entries t)
+  pub all : (p : Entry → Bool) → countIf p (below (λ i. recordEntry (callRecord s i) ∷ []) (callsIn s)) ≡ countIf p (entries t)
 
 -- the table from the first n of them
 pub record Filled (t fresh : Table) (s : List ℕ) (n : ℕ) : Type 0 where
@@ -77,14 +77,14 @@ pub record Filled (t fresh : Table) (s : List ℕ) (n : ℕ) : Type 0 where
   pub kept : Kept (withCalls fresh s n)
   pub same : roster (withCalls fresh s n) ≡ roster fresh
   pub form : withCalls fresh s n .form ≡ fresh .form
-  pub calls : (p : Entry → Bool) → countIf p (entries (withCalls fresh s n)) ≡ countIf p (below (λ i. entryOf (callRecord s i) ∷ []) n)
+  pub calls : (p : Entry → Bool) → countIf p (entries (withCalls fresh s n)) ≡ countIf p (below (λ i. recordEntry (callRecord s i) ∷ []) n)
   pub fields : (j : ℕ) → j < slots → isUsed (withCalls fresh s n .occupied) j ≡ true → callAt (withCalls fresh s n) j ≡ withoutPlaces (callAt t j)
   pub connections : (p : Held → Bool) → countIf p (held (withCalls fresh s n)) ≡ countIf p (held fresh)
 
 module _ (t fresh : Table) (s : List ℕ) (k : Kept t) (c : Copied t s)
     (shape : Shape fresh) (kept : Kept fresh) (same : roster fresh ≡ roster t) (form : fresh .form ≡ t .form) (idle : (p : Entry → Bool) → countIf p (entries fresh) ≡ 0) where
   abbrev f : ℕ → List Entry
-  f i = entryOf (callRecord s i) ∷ []
+  f i = recordEntry (callRecord s i) ∷ []
 
   -- a record's slot is one of the table's
   inside : (i : ℕ) → i < callsIn s → callRecord s i .slot < slots
@@ -94,10 +94,10 @@ module _ (t fresh : Table) (s : List ℕ) (k : Kept t) (c : Copied t s)
   part : (l : List Entry) → ((p : Entry → Bool) → countIf p l ≤ countIf p (entries t)) → CallsKept (totalOf fresh) (roster fresh) l
   part l h = rw (same, form) (calls-fewer (totalOf t) (roster t) l (entries t) h (k .calls))
 
-  one : (i : ℕ) → i < callsIn s → (p : Entry → Bool) → bit (p (entryOf (callRecord s i))) ≤ countIf p (entries t)
+  one : (i : ℕ) → i < callsIn s → (p : Entry → Bool) → bit (p (recordEntry (callRecord s i))) ≤ countIf p (entries t)
   one i h p = omega (arith, count-at f p i (callsIn s) h, c .all p)
 
-  more : (i : ℕ) → i < callsIn s → (p : Entry → Bool) → bit (p (entryOf (callRecord s i))) + countIf p (below f i) ≤ countIf p (entries t)
+  more : (i : ℕ) → i < callsIn s → (p : Entry → Bool) → bit (p (recordEntry (callRecord s i))) + countIf p (below f i) ≤ countIf p (entries t)
   more i h p = omega (arith, count-below f p i, count-prefix f p (suc i) (callsIn s) h, c .all p)
 
   -- a slot that no entry has is free

@@ -1,20 +1,20 @@
 -- A record is read as it was written.
 -- Assumes nothing.
-use Prim.Native.Nat.{ℕ, _+_, _*_, _/_, _%_}
+use Prim.Native.Nat.{ℕ, _+_, _*_, _/_, _%_, _<_}
 use native.Mathlib.Nat.{add-zero}
 use native.Mathlib.Omega.{arith}
 use mathlib.Core.Path.{_≡_, refl, sym, ap, _∙_}
 use mathlib.Core.List.{List, [], _∷_, _++_, append-assoc}
-use mathlib.Core.Bool.{true, _&&_}
-use lib.Dec.{eqb}
+use mathlib.Core.Bool.{Bool, true, false, cond, _&&_}
+use lib.Dec.{eqb, ltb}
 use lib.ListN.{length, getD, take, drop, length-append}
 use lib.Seq.{getD-append-add, take-append-seam, drop-append-seam}
-use borrow.Author.Tests.{eqb-true}
+use borrow.Author.Tests.{eqb-true, ltb-true}
 use Rattle.numbers.specs.BigEndian.{be24At, be32At, bytes16, bytes24, bytes32}
 use Rattle.lists.proofs.Tests.{both}
 use Rattle.table.specs.Table.{Call}
-use Rattle.table.specs.Lists.{Held}
-use Rattle.table.specs.Rules.{validIds, unusedClear, callFreeClear}
+use Rattle.table.specs.Lists.{isMade, Held}
+use Rattle.table.specs.Rules.{validIds, requestTidy, callFreeClear}
 use Rattle.spec_changes.proofs.Valid.{ids-named}
 use Rattle.spec_checkpoint.specs.Layout.{slottedAt, callBytes, heldAtByte, connectionBytes}
 use Rattle.spec_checkpoint.specs.Places.{withoutPlaces}
@@ -24,6 +24,9 @@ use Rattle.spec_checkpoint.proofs.Blocks.{Split, read, read16, read24, 
 
 pub back16 : (v : ℕ) → v / 256 * 256 + v % 256 ≡ v
 back16 v = omega arith
+
+back24 : (v : ℕ) → v < 0x1000000 → v / 65536 % 256 * 65536 + v / 256 % 256 * 256 + v % 256 ≡ v
+back24 v h = omega arith
 
 back32 : (v : ℕ) → v / 16777216 * 16777216 + v / 65536 % 256 * 65536 + v / 256 % 256 * 256 + v % 256 ≡ v
 back32 v = omega arith
@@ -57,16 +60,22 @@ call-size slot c n =
       length-append (c .name) (bytes32 (c .refreshed)),
     )
 
--- what is not in use yet is zero
-pub unused : (c : Call) → callFreeClear c ≡ true → (c .made ≡ 0) × (c .refreshed ≡ 0) × (c .epoch ≡ 0) × (c .identifier ≡ 0)
+-- the mark and the epoch of a call fit their bits, 1 and 24: a call that the node did not make has zeros there
+pub request-fits : (c : Call) → callFreeClear c ≡ true → (c .made < 2) × (c .epoch < 0x1000000)
 unfolding callFreeClear
-unused c h =
-    let a = both (unusedClear c && _) _ h in
-    let b = both (unusedClear c) _ (a .0) in
-    let d = both (eqb (c .made) 0 && eqb (c .refreshed) 0 && eqb (c .epoch) 0) _ (b .0) in
-    let e = both (eqb (c .made) 0 && eqb (c .refreshed) 0) _ (d .0) in
-    let f = both (eqb (c .made) 0) _ (e .0) in
-    (eqb-true _ _ (f .0), eqb-true _ _ (f .1), eqb-true _ _ (e .1), eqb-true _ _ (d .1))
+request-fits c h =
+    let a = both (requestTidy c && _) _ h in
+    let b = both (requestTidy c) _ (a .0) in
+    by (isMade c) refl (both (eqb (c .refreshed) 0) _ (b .0) .1)
+  where
+    zeros : Bool
+    zeros = eqb (c .made) 0 && eqb (c .epoch) 0 && eqb (c .identifier) 0
+
+    by : (m : Bool) → isMade c ≡ m → cond m (ltb (c .epoch) 0x1000000) zeros ≡ true → (c .made < 2) × (c .epoch < 0x1000000)
+    by true e t = (omega (arith, eqb-true (c .made) 1 e), ltb-true (c .epoch) 0x1000000 t)
+    by false e t =
+        let k = both (eqb (c .made) 0) (eqb (c .epoch) 0) (both _ (eqb (c .identifier) 0) t .0) in
+        (omega (arith, eqb-true (c .made) 0 (k .0)), omega (arith, eqb-true (c .epoch) 0 (k .1)))
 
 module _ (s : List ℕ) (at slot : ℕ) (c : Call) (n : length (c .name) ≡ 32) (i : Split s (callBytes slot c) at) where
   abbrev b : List ℕ
@@ -101,29 +110,25 @@ module _ (s : List ℕ) (at slot : ℕ) (c : Call) (n : length (c .name) ≡ 32)
 
   pub call-back : validIds c ≡ true → callFreeClear c ≡ true → slottedAt s at ≡ record { slot = slot; call = withoutPlaces c }
   call-back w t =
-      let u = unused c t in
+      let fits = request-fits c t in
       let few = ids-named c w .most in
       let first : getD s at 0 ≡ slot = rw add-zero at (read s b at i 0) in
-      let sized : getD s (at + 11) 0 ≡ c .size = read s b at i 11 ∙ rw (u .0) (omega arith) in
-      let small : c .size % 128 ≡ c .size = omega arith in
-      let unmade : c .size / 128 ≡ 0 = omega arith in
-      let refreshed : be32At s (at + 44) ≡ 0 = read32 s b at i 44 ∙ rw (behind 0, behind 1, behind 2, behind 3, u .1) in
-      let epoch : be24At s (at + 48) ≡ 0 = read24 s b at i 48 ∙ rw (behind 4, behind 5, behind 6, u .2) in
-      let identifier : be32At s (at + 51) ≡ 0 = read32 s b at i 51 ∙ rw (behind 7, behind 8, behind 9, behind 10, u .3) in
+      let marked : getD s (at + 11) 0 ≡ c .made * 128 + c .size = read s b at i 11 in
+      let size : (c .made * 128 + c .size) % 128 ≡ c .size = omega (arith, fits .0) in
+      let made : (c .made * 128 + c .size) / 128 ≡ c .made = omega (arith, fits .0) in
+      let refreshed : be32At s (at + 44) ≡ c .refreshed = read32 s b at i 44 ∙ rw (behind 0, behind 1, behind 2, behind 3) (back32 (c .refreshed)) in
+      let epoch : be24At s (at + 48) ≡ c .epoch = read24 s b at i 48 ∙ rw (behind 4, behind 5, behind 6) (back24 (c .epoch) (fits .1)) in
+      let identifier : be32At s (at + 51) ≡ c .identifier = read32 s b at i 51 ∙ rw (behind 7, behind 8, behind 9, behind 10) (back32 (c .identifier)) in
       rw (
         first,
         read16 s b at i 1 ∙ back16 (c .id),
         read32 s b at i 3 ∙ back32 (c .endpoint),
         read32 s b at i 7 ∙ back32 (c .sender),
-        sized,
-        small,
-        unmade,
+        marked,
+        size,
+        made,
         name-back,
         refreshed,
         epoch,
         identifier,
-        u .0,
-        u .1,
-        u .2,
-        u .3,
       )

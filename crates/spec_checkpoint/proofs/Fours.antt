@@ -16,9 +16,9 @@ use Rattle.lists.proofs.Below.{count-element, count-list-if, count-below, count
 use Rattle.table.specs.Table.{Call, Table}
 use Rattle.table.specs.Total.{slots}
 use Rattle.table.specs.Word.{isUsed}
-use Rattle.table.specs.Lists.{customerAt, termsOf, listedAt, roster, Ids, Entry, idsOf, callAt, openAt, entries, Held, Four, callFour, customerFour, placeAt, isTaken, connectionAt, heldPlace, heldIn, heldAt, standaloneAt, held}
+use Rattle.table.specs.Lists.{customerAt, termsOf, listedAt, roster, Ids, Entry, entryOf, callAt, openAt, entries, Held, Four, callFour, customerFour, placeAt, isTaken, connectionAt, heldPlace, heldIn, heldAt, standaloneAt, held}
 use Rattle.table.specs.Share.{isAt, isListed}
-use Rattle.table.specs.Rules.{unlisted, sameShort, placeValid, fourValid, unusedClear, callFreeClear, customerFreeClear}
+use Rattle.table.specs.Rules.{unlisted, sameShort, placeValid, fourValid, requestTidy, callFreeClear, customerFreeClear}
 use Rattle.spec_changes.specs.Connections.{sameFour, placeFor, isCallOf}
 use Rattle.spec_changes.proofs.Valid.{ids-named}
 use Rattle.spec_changes.proofs.Kept.{Kept}
@@ -73,7 +73,7 @@ module _ (t : Table) (k : Kept t) (x : Held) where
       by false false c = refl
 
   -- under another call none counts among its four
-  pub elsewhere : (x .call ≡ 0 → ⊥) → (c : Call) → isCallOf x (record { slot = 0; ids = idsOf c }) ≡ false → (j : ℕ) → sameFour x (connectionAt (callFour c) j) ≡ false
+  pub elsewhere : (x .call ≡ 0 → ⊥) → (c : Call) → isCallOf x (entryOf 0 c) ≡ false → (j : ℕ) → sameFour x (connectionAt (callFour c) j) ≡ false
   elsewhere n c e j = rw (ne-eqb (x .call) 0 n) (not-own (eqb (x .call) (c .id)) (eqb (x .lsp .sender) (c .sender)) (eqb (x .lsp .endpoint) (c .endpoint)) e)
     where
       not-own : (a b d : Bool) → (a && d && b) ≡ false → (a && b && (false || d)) ≡ false
@@ -87,8 +87,8 @@ module _ (t : Table) (k : Kept t) (x : Held) where
       omega (
         arith,
         one-call,
-        rows-bound (sameFour x) (isCallOf x) (isUsed (t .occupied)) (λ i. heldIn (callFour (callAt t i))) (λ i. record { slot = i; ids = idsOf (callAt t i) }) slots
-            (λ i l u. at-most (sameFour x) (callFour (callAt t i)) (isCallOf x (record { slot = i; ids = idsOf (callAt t i) })) (elsewhere n (callAt t i))),
+        rows-bound (sameFour x) (isCallOf x) (isUsed (t .occupied)) (λ i. heldIn (callFour (callAt t i))) (λ i. entryOf i (callAt t i)) slots
+            (λ i l u. at-most (sameFour x) (callFour (callAt t i)) (isCallOf x (entryOf i (callAt t i))) (elsewhere n (callAt t i))),
       )
 
   -- a call's ID is not 0
@@ -131,7 +131,7 @@ module _ (t : Table) (k : Kept t) where
   -- under a call it is the call's
   pub call-sender : (i : ℕ) → i < slots → isUsed (t .occupied) i ≡ true → not (isListed (roster t) (callAt t i .sender)) ≡ false
   call-sender i l u =
-      let e : Entry = record { slot = i; ids = idsOf (callAt t i) } in
+      let e : Entry = entryOf i (callAt t i) in
       let here : countIf (unlisted (roster t)) (openAt t i) ≡ bit (unlisted (roster t) e) = count-element (unlisted (roster t)) (isUsed (t .occupied) i) e ∙ rw u in
       no-bit _ (omega (arith, here, count-at (openAt t) (unlisted (roster t)) i slots l, k .calls .senders))
 
@@ -159,7 +159,7 @@ taken-fits f j v l u = let h : placeValid (placeAt f j) ≡ true = every-at _ 4 
 module _ (t : Table) (k : Kept t) where
   pub under-valid : (i : ℕ) → i < slots → isUsed (t .occupied) i ≡ true → fourValid (callFour (callAt t i)) ≡ true
   unfolding callFreeClear
-  under-valid i l u = let h : callFreeClear (callAt t i) ≡ true = rw u at (k .slots i l) in both (unusedClear (callAt t i) && _) _ h .1
+  under-valid i l u = let h : callFreeClear (callAt t i) ≡ true = rw u at (k .slots i l) in both (requestTidy (callAt t i) && _) _ h .1
 
   pub standalone-valid : (i : ℕ) → i < 8 → ltb i (t .listed) ≡ true → fourValid (customerFour (customerAt t i)) ≡ true
   unfolding customerFreeClear

@@ -9,7 +9,7 @@ use Rattle.table.specs.Roster.{rosterNumber, rosterAnswer}
 use Rattle.spec_changes.proofs.Told.{rules-kept}
 use Rattle.spec_checkpoint.specs.Salvage.{placed, namedBy, callFits}
 use Rattle.spec_checkpoint.specs.Restored.{restored}
-use Rattle.spec_checkpoint.specs.Claims.{SlotNotLookedAt, TakenSlotDropped, ShareKept, SizeFirst}
+use Rattle.spec_checkpoint.specs.Claims.{SlotNotLookedAt, TakenSlotDropped, ShareKept, RequestsKept, SizeFirst}
 
 pub slot-not-looked-at : SlotNotLookedAt
 unfolding namedBy
@@ -22,6 +22,10 @@ taken-slot-dropped t r u = rw u
 pub share-kept : ShareKept
 unfolding callFits
 share-kept t r f = rules-kept (placed t r) (both (not (isUsed (t .occupied) (r .slot))) _ f .1) .calls .room
+
+pub requests-kept : RequestsKept
+unfolding callFits
+requests-kept t r f = rules-kept (placed t r) (both (not (isUsed (t .occupied) (r .slot))) _ f .1) .calls .requests
 
 pub size-first : SizeFirst
 unfolding restored

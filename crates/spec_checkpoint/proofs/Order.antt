@@ -22,7 +22,7 @@ use Rattle.table.specs.Table.{Call, Customer, Table}
 use Rattle.table.specs.Total.{slots}
 use Rattle.table.specs.Word.{isUsed}
 use Rattle.table.specs.Zeros.{pastCall, pastCustomer}
-use Rattle.table.specs.Lists.{customerAt, termsOf, listedAt, roster, callAt, idsOf, openAt, Held, Four, callFour, customerFour, placeAt, isTaken, connectionAt, heldPlace, heldIn, heldAt, standaloneAt, held}
+use Rattle.table.specs.Lists.{customerAt, termsOf, listedAt, roster, callAt, idsOf, entryOf, openAt, Held, Four, callFour, customerFour, placeAt, isTaken, connectionAt, heldPlace, heldIn, heldAt, standaloneAt, held}
 use Rattle.table.specs.Share.{isAt}
 use Rattle.spec_changes.specs.Shape.{Shape}
 use Rattle.spec_changes.specs.Calls.{slotOf}
@@ -84,7 +84,7 @@ module _ (t : Table) (k : Kept t) where
     where
       here : (i : ℕ) → isUsed (t .occupied) i ≡ true → isUnder (idsOf (callAt t i)) x ≡ true → 0 < countIf (isCallOf x) (openAt t i)
       here i u a =
-          let e : countIf (isCallOf x) (openAt t i) ≡ 1 = count-element (isCallOf x) (isUsed (t .occupied) i) (record { slot = i; ids = idsOf (callAt t i) }) ∙ rw (u, a) in
+          let e : countIf (isCallOf x) (openAt t i) ≡ 1 = count-element (isCallOf x) (isUsed (t .occupied) i) (entryOf i (callAt t i)) ∙ rw (u, a) in
           omega arith
 
   -- an address is one customer's alone

@@ -12,16 +12,13 @@ use Rattle.lists.specs.Below.{elementIf, below}
 use Rattle.table.specs.Table.{Table}
 use Rattle.table.specs.Total.{slots, totalOf}
 use Rattle.table.specs.Word.{isUsed, withUsed}
-use Rattle.table.specs.Lists.{roster, idsOf, Entry, entries, Held, callFour, heldIn, held}
+use Rattle.table.specs.Lists.{roster, Entry, entries, Held, callFour, heldIn, held}
 use Rattle.table.specs.Rules.{rosterHolds, validIds, sameConnection, callFreeClear}
 use Rattle.table.proofs.Slots.{used-here, used-other}
 use Rattle.spec_changes.proofs.Kept.{CallsKept, Kept}
 use Rattle.spec_changes.proofs.Slot.{slot-entries, slot-held, slot-names, slot-within, slot-free-clear}
-use Rattle.spec_checkpoint.specs.Layout.{Slotted, callRecord}
+use Rattle.spec_checkpoint.specs.Layout.{Slotted, recordEntry, callRecord}
 use Rattle.spec_checkpoint.specs.Salvage.{placed}
-
-abbrev pub entryOf : Slotted → Entry
-entryOf r = record { slot = r .slot; ids = idsOf (r .call) }
 
 -- a record has no connections in its call's places
 pub record-bare : (s : List ℕ) (i : ℕ) → heldIn (callFour (callRecord s i .call)) ≡ []
@@ -45,7 +42,7 @@ module _ (t : Table) (r : Slotted) (long : slots ≤ length (t .calls)) (four : 
   other : (j : ℕ) → (j ≡ r .slot → ⊥) → isUsed words j ≡ isUsed (t .occupied) j
   other = used-other (t .occupied) (r .slot) within-words
 
-  pub placed-entries : (p : Entry → Bool) → countIf p (entries (placed t r)) ≡ bit (p (entryOf r)) + countIf p (entries t)
+  pub placed-entries : (p : Entry → Bool) → countIf p (entries (placed t r)) ≡ bit (p (recordEntry r)) + countIf p (entries t)
   placed-entries p = omega (arith, (rw (was, is) at (slot-entries t words (r .slot) (r .call) inside long other p)))
 
   pub placed-held : (p : Held → Bool) → countIf p (held (placed t r)) ≡ countIf p (held t)

@@ -16,7 +16,7 @@ use Rattle.lists.proofs.Below.{below-ext, below-nothing, below-first, length-ea
 use Rattle.table.specs.Table.{Place, Call, Customer, Table}
 use Rattle.table.specs.Total.{slots}
 use Rattle.table.specs.Word.{isUsed}
-use Rattle.table.specs.Lists.{Terms, customerAt, termsOf, roster, idsOf, callAt, openAt, entries, Held, Four, callFour, customerFour, placeAt, isTaken, heldPlace, heldIn, heldAt, standaloneAt, held}
+use Rattle.table.specs.Lists.{Terms, customerAt, termsOf, roster, entryOf, callAt, openAt, entries, Held, Four, callFour, customerFour, placeAt, isTaken, heldPlace, heldIn, heldAt, standaloneAt, held}
 use Rattle.table.specs.Rules.{placeClear, fourClear, unusedClear, callClear, customerClear}
 use Rattle.spec_changes.specs.Shape.{Shape}
 use Rattle.spec_changes.specs.Connections.{added}
@@ -125,7 +125,7 @@ module _ (t u : Table) (k : Kept t) (m : Kept u) (same : roster u ≡ roster t) 
   entries-same = below-ext (openAt u) (openAt t) slots (λ i l. by i l (isUsed (t .occupied) i) refl)
     where
       by : (i : ℕ) → i < slots → (c : Bool) → isUsed (t .occupied) i ≡ c → openAt u i ≡ openAt t i
-      by i l true e = rw (b .occupied, e) (ap (λ c. record { slot = i; ids = idsOf c } ∷ []) (b .fields i l e))
+      by i l true e = rw (b .occupied, e) (ap (λ c. entryOf i c ∷ []) (b .fields i l e))
       by i l false e = rw (b .occupied, e)
 
   pub held-same : held u ≡ held t

@@ -17,14 +17,13 @@ use Rattle.lists.proofs.Tests.{both}
 use Rattle.table.specs.Table.{Call, Table}
 use Rattle.table.specs.Total.{slots, totalOf}
 use Rattle.table.specs.Word.{isUsed}
-use Rattle.table.specs.Lists.{Entry, idsOf, callAt, entries, Held, held}
-use Rattle.table.specs.Rules.{validIds, unusedClear, placeClear, placeValid, callFreeClear}
+use Rattle.table.specs.Lists.{Entry, entryOf, callAt, entries, Held, held}
+use Rattle.table.specs.Rules.{validIds, requestTidy, placeClear, placeValid, callFreeClear}
 use Rattle.table.specs.Roster.{formIn}
 use Rattle.spec_changes.proofs.Slot.{open-most}
 use Rattle.spec_changes.proofs.Kept.{Kept}
-use Rattle.spec_checkpoint.specs.Layout.{Slotted, callsIn, connectionsIn, checkpointSize, callRecord, callBytes, connectionRecord, connectionBytes, joined, headBytes, checkpointOf}
+use Rattle.spec_checkpoint.specs.Layout.{Slotted, recordEntry, callsIn, connectionsIn, checkpointSize, callRecord, callBytes, connectionRecord, connectionBytes, joined, headBytes, checkpointOf}
 use Rattle.spec_checkpoint.specs.Places.{withoutPlaces}
-use Rattle.spec_checkpoint.proofs.Part.{entryOf}
 use Rattle.spec_checkpoint.proofs.AllKept.{Copied}
 use Rattle.spec_checkpoint.proofs.Blocks.{Split, Blocks, joined-length, joined-split, split-between, split-behind}
 use Rattle.spec_checkpoint.proofs.Codec.{back16, connection-size, connection-back, call-size, call-back}
@@ -44,7 +43,7 @@ module _ (t : Table) (k : Kept t) (names : (i : ℕ) → i < slots → length (c
   usedSlots = used (isUsed (t .occupied)) slots
 
   abbrev entry : ℕ → Entry
-  entry i = record { slot = i; ids = idsOf (callAt t i) }
+  entry i = entryOf i (callAt t i)
 
   abbrev block : ℕ → List ℕ
   block i = callBytes i (callAt t i)
@@ -125,7 +124,7 @@ module _ (t : Table) (k : Kept t) (names : (i : ℕ) → i < slots → length (c
 
   without-free-clear : (c : Call) → callFreeClear c ≡ true → callFreeClear (withoutPlaces c) ≡ true
   unfolding callFreeClear everyBelow placeClear placeValid
-  without-free-clear c h = rw (both (unusedClear c && zerosAt (c .name) (c .size) (32 - c .size)) _ h .0)
+  without-free-clear c h = rw (both (requestTidy c && zerosAt (c .name) (c .size) (32 - c .size)) _ h .0)
 
   -- what holds of each call that stands in a used slot holds of each record
   by-record : (P : Slotted → Type 0) → ((i : ℕ) → i < slots → isUsed (t .occupied) i ≡ true → P (record { slot = i; call = withoutPlaces (callAt t i) }))
@@ -134,9 +133,9 @@ module _ (t : Table) (k : Kept t) (names : (i : ℕ) → i < slots → length (c
       let u = in-use j (omega (arith, as-many, calls-in)) in
       subst (λ (r : Slotted). P r) (sym (record-of j h)) (f (getD usedSlots j 0) (u .0) (u .1))
 
-  entries-are : below (λ j. entryOf (callRecord s j) ∷ []) (callsIn s) ≡ entries t
+  entries-are : below (λ j. recordEntry (callRecord s j) ∷ []) (callsIn s) ≡ entries t
   entries-are =
-      below-ext (λ j. entryOf (callRecord s j) ∷ []) (λ j. entry (getD usedSlots j 0) ∷ []) (callsIn s) (λ j h. ap (λ (r : Slotted). entryOf r ∷ []) (record-of j h))
+      below-ext (λ j. recordEntry (callRecord s j) ∷ []) (λ j. entry (getD usedSlots j 0) ∷ []) (callsIn s) (λ j h. ap (λ (r : Slotted). recordEntry r ∷ []) (record-of j h))
       ∙ ap (below (λ j. entry (getD usedSlots j 0) ∷ [])) (calls-in ∙ sym as-many)
       ∙ each-of entry 0 usedSlots
       ∙ sym listed-slots

@@ -14,10 +14,10 @@ use Rattle.table.specs.Table.{Call, Table}
 use Rattle.table.specs.Total.{slots, totalOf}
 use Rattle.table.specs.Word.{isUsed}
 use Rattle.table.specs.Zeros.{emptyTable}
-use Rattle.table.specs.Lists.{customerAt, roster, callAt, entries, callFour, customerFour, heldIn, Held, held}
+use Rattle.table.specs.Lists.{customerAt, roster, callAt, Entry, entries, callFour, customerFour, heldIn, Held, held}
 use Rattle.table.specs.Words.{tableOf}
 use Rattle.table.specs.Share.{S}
-use Rattle.table.specs.Rules.{rulesHold}
+use Rattle.table.specs.Rules.{sameRequest, rulesHold}
 use Rattle.table.specs.Roster.{formIn, customersIn, totalIn, recordsIn, rosterNumber, rosterAnswer, freshTable}
 use Rattle.spec_changes.specs.Shape.{Shape}
 use Rattle.spec_promises.specs.Ledger.{ledger}
@@ -65,7 +65,8 @@ pub record ReadBack (t : Table) (f : Restored) : Type 0 where
   pub answer : f .answer ≡ 0
   pub callsDropped : f .calls ≡ 0
   pub connectionsDropped : f .connections ≡ 0
-  -- the same slots are used, and the call in each has every field that it had
+  -- the same slots are used, and the call in each has every field that it had: of one that the node made (02, A6) the mark
+  -- and the request's epoch and identifier too
   pub occupied : f .table .occupied ≡ t .occupied
   pub calls : (i : ℕ) → i < slots → isUsed (t .occupied) i ≡ true → withoutPlaces (callAt (f .table) i) ≡ withoutPlaces (callAt t i)
   -- each call and each customer has the same connections in the same order
@@ -161,6 +162,11 @@ TakenSlotDropped = (t : Table) (r : Slotted) → isUsed (t .occupied) (r .slot) 
 abbrev pub ShareKept : Type 0
 ShareKept = (t : Table) (r : Slotted) → callFits t r ≡ true → S (roster (placed t r)) (entries (placed t r)) ≤ totalOf t
 
+-- and no two calls that the node made for a pair share the two numbers of their requests (02, A6). Not so of a node that
+-- tests the two IDs alone: after a restart a retry would find two calls.
+abbrev pub RequestsKept : Type 0
+RequestsKept = (t : Table) (r : Slotted) → callFits t r ≡ true → (e : Entry) → countIf (sameRequest e) (entries (placed t r)) ≤ 1
+
 -- ---- what is reported as dropped
 
 abbrev pub callDropped : List ℕ → List ℕ → ℕ → Bool
@@ -187,8 +193,11 @@ ConnectionsDropped =
 -- ---- what comes after
 
 -- "Demand 3's list may also start from a table so read under an accepted roster: the ledger then holds the calls that these
--- rules restore, none after a refused reading, .. and counts them as opened." The total is that of the roster. Not so of a
--- node that counts a restored call as room left, or takes the total of the roster that the copy was written under.
+-- rules restore, none after a refused reading, with their slots and, if made, their two numbers, and counts them as opened."
+-- The ledger begins with the table's entries: an entry has its slot, its mark and its request's two numbers, so that a
+-- request without names finds the call that was made for it before the restart. The total is that of the roster. Not so of
+-- a node that counts a restored call as room left, makes a second call for a retry, or takes the total of the roster that
+-- the copy was written under.
 abbrev pub Demand3Restored : Type 0
 Demand3Restored =
     (salvage : Bool) (r s : List ℕ) → Bytes r → Bytes s → rosterNumber (rosterAnswer r) ≡ 0 → (xs : List Input)

@@ -9,7 +9,7 @@ use Rattle.table.specs.Table.{Call, Table}
 use Rattle.table.specs.Total.{slots}
 use Rattle.table.specs.Word.{isUsed}
 use Rattle.table.specs.Zeros.{noPlace}
-use Rattle.table.specs.Lists.{callAt, entries, Held, held}
+use Rattle.table.specs.Lists.{callAt, Entry, entryOf, entries, Held, held}
 
 -- ---- the head: form 4 bits, where a roster has them (`formIn`), calls 12, connections 16
 
@@ -29,6 +29,10 @@ checkpointSize calls connections = 4 + 55 * calls + 18 * connections
 pub record Slotted : Type 0 where
   pub slot : ℕ
   pub call : Call
+
+-- its entry: the call's four, mark and request, in that slot
+abbrev pub recordEntry : Slotted → Entry
+recordEntry r = entryOf (r .slot) (r .call)
 
 abbrev pub slottedAt : List ℕ → ℕ → Slotted
 slottedAt s at = record {

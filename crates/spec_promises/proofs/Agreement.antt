@@ -1,13 +1,11 @@
 -- Each change keeps the agreement of table and ledger.
 -- Assumes nothing.
-use Prim.Native.Nat.{ℕ, suc, _≤_, _<_}
+use Prim.Native.Nat.{ℕ, _≤_, _<_}
 use native.Mathlib.Omega.{arith}
 use mathlib.Core.Path.{_≡_, refl, sym, ap, _∙_}
-use mathlib.Core.Logic.{_≢_}
 use mathlib.Core.List.{List, _∷_}
 use mathlib.Core.Bool.{Bool, true, false}
 use lib.Dec.{eqb, ltb}
-use lib.ListN.{length, getD}
 use borrow.Author.Tests.{ltb-true, ltb-false}
 use Rattle.lists.specs.Count.{countIf, has, without}
 use Rattle.lists.proofs.Tests.{both}
@@ -16,15 +14,15 @@ use Rattle.lists.proofs.Count.{some-bit, count-le, without-same, count-gone}
 use Rattle.table.specs.Table.{Table}
 use Rattle.table.specs.Total.{slots, totalOf}
 use Rattle.table.specs.Word.{isUsed, lowestFree}
-use Rattle.table.specs.Lists.{roster, Ids, Entry, callAt, idsOf, entries, Lsp, Held, held}
+use Rattle.table.specs.Lists.{roster, Ids, Entry, callAt, entryOf, entries, Lsp, Held, held}
 use Rattle.table.specs.Rules.{rosterHolds, sameShort, sameLong, isLsp, rulesHold}
 use Rattle.table.proofs.Slots.{lowest-below, lowest-here}
 use Rattle.table.proofs.Within.{total-most}
-use Rattle.spec_changes.specs.Calls.{opened, isCall, slotOf, closed, identifierTaken}
+use Rattle.spec_changes.specs.Calls.{New, entryFor, opened, isCall, slotOf, closed, identifierTaken}
 use Rattle.spec_changes.specs.Connections.{added, removed, isUnder}
 use Rattle.spec_changes.proofs.Kept.{Kept, MayOpen, room-for}
 use Rattle.spec_changes.proofs.Told.{roster-kept, rules-kept, kept-rules}
-use Rattle.spec_changes.proofs.Opened.{slot-used, free-slot, opened-entries, opened-held, opened-shape, opened-kept}
+use Rattle.spec_changes.proofs.Opened.{slot-used, free-slot, opened-entries, opened-held, opened-shape, Fits, opened-kept}
 use Rattle.spec_changes.proofs.Closed.{closed-slot, closed-entries, closed-shape, closed-kept}
 use Rattle.spec_changes.proofs.Added.{MayAdd, added-entries, added-shape, added-kept}
 use Rattle.spec_changes.proofs.Removed.{removed-entries, removed-shape, removed-kept}
@@ -81,19 +79,21 @@ module _ (t : Table) (l : List Entry) (g : Agrees t l) where
   -- ---- opening and closing
 
   -- what may be opened finds a free slot below the total
-  free : (c : Ids) → MayOpen (totalOf t) (roster t) (entries t) c → lowestFree (t .occupied) < totalOf t
-  free c m = free-slot t kept (room-for (totalOf t) (roster t) (entries t) c (kept .calls) m)
+  free : (e : Entry) → MayOpen (totalOf t) (roster t) (entries t) e → lowestFree (t .occupied) < totalOf t
+  free e m = free-slot t kept (room-for (totalOf t) (roster t) (entries t) e (kept .calls) m)
 
-  pub open-agrees : (c : Ids) → MayOpen (totalOf t) (roster t) (entries t) c → 0 < c .short → c .short < 0x10000 → 0 < length (c .long) → length (c .long) ≤ 32
-      → ((k : ℕ) → length (c .long) ≡ suc k → getD (c .long) k 0 ≢ 0) → Agrees (opened t c) (record { slot = lowestSlot l (totalOf t); ids = c } ∷ l)
-  open-agrees c m short fits some most ends = record {
-    shape = opened-shape t c (g .shape) (free c m);
-    rules = kept-rules (opened t c) (opened-kept t c (g .shape) kept m (roster-kept t (kept .accepted) .apart) short fits some most ends);
-    calls = λ p. opened-entries t c (g .shape) (free c m) p ∙ rw (lowest-is t l kept (g .calls), g .calls p);
+  abbrev Allowed : New → Type 0
+  Allowed c = MayOpen (totalOf t) (roster t) (entries t) (entryFor (lowestFree (t .occupied)) c)
+
+  pub open-agrees : (c : New) → Allowed c → Fits c → Agrees (opened t c) (entryFor (lowestSlot l (totalOf t)) c ∷ l)
+  open-agrees c m f = record {
+    shape = opened-shape t c (g .shape) (free _ m);
+    rules = kept-rules (opened t c) (opened-kept t c (g .shape) kept m (roster-kept t (kept .accepted) .apart) f);
+    calls = λ p. opened-entries t c (g .shape) (free _ m) p ∙ rw (lowest-is t l kept (g .calls), g .calls p);
   }
 
-  pub open-held : (c : Ids) → MayOpen (totalOf t) (roster t) (entries t) c → (p : Held → Bool) → countIf p (held (opened t c)) ≡ countIf p (held t)
-  open-held c m p = opened-held t c (g .shape) (free c m) p
+  pub open-held : (c : New) → Allowed c → (p : Held → Bool) → countIf p (held (opened t c)) ≡ countIf p (held t)
+  open-held c m p = opened-held t c (g .shape) (free _ m) p
 
   pub close-agrees : (c : Ids) → 0 < countIf (isCall c) (entries t) → countIf (isUnder c) (held t) ≡ 0 → Agrees (closed t c) (without (isCall c) l)
   close-agrees c h idle = record {
@@ -107,7 +107,7 @@ module _ (t : Table) (l : List Entry) (g : Agrees t l) where
 
       gone : (p : Entry → Bool) → countIf p (entries (closed t c)) ≡ countIf p (without (isCall c) (entries t))
       gone =
-          count-gone (isCall c) (entries t) (entries (closed t c)) (record { slot = slotOf t (isCall c); ids = idsOf (callAt t (slotOf t (isCall c))) })
+          count-gone (isCall c) (entries t) (entries (closed t c)) (entryOf (slotOf t (isCall c)) (callAt t (slotOf t (isCall c))))
           (closed-slot t c (g .shape) h .2) once (closed-entries t c (g .shape) h)
 
   -- ---- connections come and go

@@ -1,10 +1,10 @@
 -- The reply buffer: every reply fits, so that it stands complete in front of the old bytes; and its words add up.
 -- Assumes nothing.
-use Prim.Native.Nat.{ℕ, _≤_, _<_}
+use Prim.Native.Nat.{ℕ, _+_, _≤_, _<_}
 use native.Mathlib.Omega.{arith}
 use mathlib.Core.Path.{_≡_, refl, sym, ap, _∙_}
 use mathlib.Core.List.{List, [], _∷_}
-use mathlib.Core.Bool.{Bool, true, false, cond}
+use mathlib.Core.Bool.{Bool, true, false, cond, not, _&&_}
 use lib.Dec.{ltb}
 use lib.ListN.{length, take, drop}
 use lib.Seq.{length-sets}
@@ -13,25 +13,34 @@ use Rattle.numbers.specs.BigEndian.{Bytes}
 use Rattle.numbers.specs.Buffer.{atFront}
 use Rattle.numbers.specs.Checksum.{wordsSum}
 use Rattle.numbers.proofs.Buffer.{front-length, front-taken, front-dropped, nothing-written}
+use Rattle.lists.proofs.Tests.{both}
 use Rattle.messages.specs.declared.message.CallRequest.{CallRequest}
 use Rattle.messages.specs.declared.message.Connection.{Connection}
 use Rattle.messages.specs.declared.message.Message.the-variants.{Open, Close, Add, Drop}
+use Rattle.messages.specs.Status.{callBit, deleteBit}
 use Rattle.messages.specs.Inside.{CallInside, ConnectionInside}
 use Rattle.reply_objects.specs.Buffer.{leastBuffer}
 use Rattle.reply_objects.specs.Header.{withChecksum}
 use Rattle.replies.specs.declared.notify.Notify.{Notify}
 use Rattle.replies.specs.declared.path_err.PathErr.{PathErr}
-use Rattle.replies.specs.Messages.{PathErrFits, NotifyFits, notifyBytes, pathErrBytes}
+use Rattle.replies.specs.Messages.{PathErrFits, NotifyFits, notifyBytes, notifyMadeBytes, pathErrBytes}
 use Rattle.replies.specs.Claims.{ErrorFits}
 use Rattle.replies.proofs.Lengths.{path-err-length, notify-length}
-use Rattle.replies.proofs.Sums.{path-err-adds-up, notify-adds-up}
+use Rattle.replies.proofs.Filled.{notify-made-length}
+use Rattle.replies.proofs.Sums.{path-err-adds-up, notify-adds-up, notify-made-adds-up}
 use Rattle.table.specs.Table.{Table}
-use Rattle.table.specs.Lists.{Terms, roster}
+use Rattle.table.specs.Total.{totalOf}
+use Rattle.table.specs.Lists.{Terms, roster, Ids, callAt, entries, held}
+use Rattle.table.specs.Rules.{rulesHold}
 use Rattle.answers.specs.declared.answer.Answer.{Answer}
 use Rattle.answers.specs.declared.answer.Answer.the-variants.{TableBroken, BufferTooSmall, Malformed, SenderNotListed, UnderOtherCall, NotHeld, CallOpened, CallAlreadyOpen, CallClosed, ConnectionAdded, ConnectionAlreadyHeld, ConnectionRemoved, CallIdContention, DuplicateCall, ConnectionsStillExist, UnknownCall, NoShare, PathUnknownCall, NoPlaceLeft}
-use Rattle.answers.specs.Answers.{errorCode, errorValue, sendsNotify, sendsPathErr}
+use Rattle.answers.specs.Answers.{is, errorCode, errorValue, sendsNotify, sendsPathErr}
 use Rattle.spec_calls.specs.Form.{Form, faulty, sound, readForm, formOf}
-use Rattle.spec_calls.specs.Handling.{errorFor, ownId, notifyFor, pathErrFor, answerOf, formReply, replyAfter, handled}
+use Rattle.spec_calls.specs.Handling.{formAnswer, errorFor, ownId, notifyFor, pathErrFor, answeredIds, answerOf, formReply, replyAfter, handled}
+use Rattle.spec_calls.specs.CallRules.{idsIn, nameless, openAnswer, closeAnswer}
+use Rattle.spec_calls.specs.PathRules.{heldBy, addAnswer}
+use Rattle.spec_calls.proofs.Sent.{notify-fits}
+use Rattle.spec_calls.proofs.Answered.{IdsFit, answered-fit, answered-bytes}
 use Rattle.spec_promises.specs.Claims.{InFront, BufferHolds, BufferAfter, ReplyAddsUp}
 use Rattle.spec_promises.proofs.Formed.{Says, form-says}
 
@@ -67,36 +76,22 @@ sent-sum true r e h = e
 sent-sum false r e h = let z : ⊥ = omega arith in absurd z
 
 module _ (t : Table) (s buffer : List ℕ) (room : leastBuffer ≤ length buffer) (a : Answer) where
-  notify-fits : (q : CallRequest) (status : ℕ) → CallInside s q → NotifyFits s (notifyFor (t .address) (ownId t) q status a) buffer
-  notify-fits q status i = record {
-    session = i .session;
-    template = i .template;
-    attribute = i .attribute;
-    sessionSize = i .sessionSize;
-    templateSize = i .templateSize;
-    attributeLeast = i .attributeLeast;
-    attributeMost = i .attributeMost;
-    attributeFours = i .attributeFours;
-    room = room;
-  }
+  abbrev fits : (q : CallRequest) (status : ℕ) → CallInside s q → NotifyFits s (notifyFor (t .address) (ownId t) q status a) buffer
+  fits q status i = notify-fits s buffer (t .address) (ownId t) q status a i room
 
   path-err-fits : (c : Connection) → ConnectionInside s c → PathErrFits s (pathErrFor (t .address) c a) buffer
   path-err-fits c i = record { session = i .session; template = i .template; sessionSize = i .sessionSize; templateSize = i .templateSize; room = room }
 
   notify-most : (q : CallRequest) (status : ℕ) → CallInside s q → length (notifyBytes s (notifyFor (t .address) (ownId t) q status a)) ≤ length buffer
   unfolding notifyBytes withChecksum
-  notify-most q status i = simp length-sets (omega (arith, notify-length (notify-fits q status i), i .attributeMost))
+  notify-most q status i = simp length-sets (omega (arith, notify-length (fits q status i), i .attributeMost))
 
   path-err-most : (c : Connection) → ConnectionInside s c → length (pathErrBytes s (pathErrFor (t .address) c a)) ≤ length buffer
   unfolding pathErrBytes withChecksum
   path-err-most c i = simp length-sets (omega (arith, path-err-length (path-err-fits c i)))
 
-  form-fits : (f : Form) → Says (roster t) s f → length (formReply t s f a) ≤ length buffer
-  form-fits (faulty _) i = omega arith
-  form-fits (sound (Open q)) i = sent (sendsNotify a) _ (length buffer) (notify-most q _ (i .inside))
-  form-fits (sound (Close q)) i = sent (sendsNotify a) _ (length buffer) (notify-most q _ (i .inside))
-  form-fits (sound (Add c)) i = sent (sendsPathErr a) _ (length buffer) (path-err-most c (i .inside))
-  form-fits (sound (Drop c)) i = omega arith
+  made-most : (q : CallRequest) (c : Ids) → CallInside s q → IdsFit c → length (notifyMadeBytes s (notifyFor (t .address) (ownId t) q callBit a) (c .short) (c .long)) ≤ length buffer
+  made-most q c i f = omega (arith, notify-made-length (c .short) (c .long) (fits q callBit i) (f .most), f .most)
 
   -- ---- the sum of its words
 
@@ -106,31 +101,93 @@ module _ (t : Table) (s buffer : List ℕ) (room : leastBuffer ≤ length buffer
 
     notify-sum : (q : CallRequest) (status : ℕ) → status < 0x100000000 → CallInside s q → wordsSum (notifyBytes s (notifyFor (t .address) (ownId t) q status a)) ≡ 65535
     notify-sum q status h i =
-        notify-adds-up s (notifyFor (t .address) (ownId t) q status a) buffer bytes (notify-fits q status i)
+        notify-adds-up s (notifyFor (t .address) (ownId t) q status a) buffer bytes (fits q status i)
         (record { error = error-numbers; acknowledged = i .identifierFits bytes; own = next; status = h })
 
     path-err-sum : (c : Connection) → ConnectionInside s c → wordsSum (pathErrBytes s (pathErrFor (t .address) c a)) ≡ 65535
     path-err-sum c i = path-err-adds-up s (pathErrFor (t .address) c a) buffer bytes (path-err-fits c i) error-numbers
 
-    form-sum : (f : Form) → Says (roster t) s f → 0 < length (formReply t s f a) → wordsSum (formReply t s f a) ≡ 65535
+    made-sum : (q : CallRequest) (c : Ids) → CallInside s q → IdsFit c → Bytes (c .long)
+        → wordsSum (notifyMadeBytes s (notifyFor (t .address) (ownId t) q callBit a) (c .short) (c .long)) ≡ 65535
+    made-sum q c i f b =
+        notify-made-adds-up s (notifyFor (t .address) (ownId t) q callBit a) buffer (c .short) (c .long) bytes (fits q callBit i)
+        (record { error = error-numbers; acknowledged = i .identifierFits bytes; own = next; status = omega arith }) (f .sixteen) b (f .most)
+
+-- ---- by the form of the message, in a table that keeps the rules
+
+module _ (t : Table) (s buffer : List ℕ) (room : leastBuffer ≤ length buffer) (rules : rulesHold t ≡ true) where
+  abbrev openBy : CallRequest → Answer
+  openBy q = openAnswer (totalOf t) (roster t) (entries t) s q
+
+  open-fits : (q : CallRequest) (b : Bool) → CallInside s q → (nameless q && not (is 34 (openBy q))) ≡ b
+      → length (cond b (notifyMadeBytes s (notifyFor (t .address) (ownId t) q callBit (openBy q)) (answeredIds t s q (openBy q) .short) (answeredIds t s q (openBy q) .long))
+      (notifyBytes s (notifyFor (t .address) (ownId t) q callBit (openBy q)))) ≤ length buffer
+  open-fits q true i e = made-most t s buffer room (openBy q) q (answeredIds t s q (openBy q)) i (answered-fit t s q rules e)
+  open-fits q false i e = notify-most t s buffer room (openBy q) q callBit i
+
+  form-fits : (f : Form) → Says (roster t) s f → length (formReply t s f (formAnswer t s f)) ≤ length buffer
+  form-fits (faulty _) i = omega arith
+  form-fits (sound (Open q)) i = sent (sendsNotify (openBy q)) _ (length buffer) (open-fits q (nameless q && not (is 34 (openBy q))) (i .inside .0) refl)
+  form-fits (sound (Close q)) i =
+      let a = closeAnswer (entries t) (held t) (idsIn s q) in
+      sent (sendsNotify a) _ (length buffer) (notify-most t s buffer room a q (callBit + deleteBit) (i .inside .0))
+  form-fits (sound (Add c)) i =
+      let a = addAnswer (entries t) (held t) (heldBy c) in
+      sent (sendsPathErr a) _ (length buffer) (path-err-most t s buffer room a c (i .inside))
+  form-fits (sound (Drop c)) i = omega arith
+
+  module _ (bytes : Bytes s) (address : t .address < 0x100000000) (next : t .next < 0x100000000) (names : (i : ℕ) → Bytes (callAt t i .name)) where
+    open-sum : (q : CallRequest) (b : Bool) → CallInside s q → (nameless q && not (is 34 (openBy q))) ≡ b
+        → wordsSum (cond b (notifyMadeBytes s (notifyFor (t .address) (ownId t) q callBit (openBy q)) (answeredIds t s q (openBy q) .short) (answeredIds t s q (openBy q) .long))
+        (notifyBytes s (notifyFor (t .address) (ownId t) q callBit (openBy q)))) ≡ 65535
+    open-sum q true i e =
+        made-sum t s buffer room (openBy q) bytes address next q (answeredIds t s q (openBy q)) i (answered-fit t s q rules e)
+        (answered-bytes t s q names (openBy q) (both (nameless q) (not (is 34 (openBy q))) e .0))
+    open-sum q false i e = notify-sum t s buffer room (openBy q) bytes address next q callBit (omega arith) i
+
+    form-sum : (f : Form) → Says (roster t) s f → 0 < length (formReply t s f (formAnswer t s f)) → wordsSum (formReply t s f (formAnswer t s f)) ≡ 65535
     form-sum (faulty _) i h = let z : ⊥ = omega arith in absurd z
-    form-sum (sound (Open q)) i h = sent-sum (sendsNotify a) _ (notify-sum q _ (omega arith) (i .inside)) h
-    form-sum (sound (Close q)) i h = sent-sum (sendsNotify a) _ (notify-sum q _ (omega arith) (i .inside)) h
-    form-sum (sound (Add c)) i h = sent-sum (sendsPathErr a) _ (path-err-sum c (i .inside)) h
+    form-sum (sound (Open q)) i h = sent-sum (sendsNotify (openBy q)) _ (open-sum q (nameless q && not (is 34 (openBy q))) (i .inside .0) refl) h
+    form-sum (sound (Close q)) i h =
+        let a = closeAnswer (entries t) (held t) (idsIn s q) in
+        sent-sum (sendsNotify a) _ (notify-sum t s buffer room a bytes address next q (callBit + deleteBit) (omega arith) (i .inside .0)) h
+    form-sum (sound (Add c)) i h =
+        let a = addAnswer (entries t) (held t) (heldBy c) in
+        sent-sum (sendsPathErr a) _ (path-err-sum t s buffer room a bytes address next c (i .inside)) h
     form-sum (sound (Drop c)) i h = let z : ⊥ = omega arith in absurd z
+
+-- ---- in a table that breaks them nothing is sent
+
+broken-reply : (t : Table) (s : List ℕ) (f : Form) → formReply t s f TableBroken ≡ []
+broken-reply t s (faulty _) = refl
+broken-reply t s (sound (Open q)) = refl
+broken-reply t s (sound (Close q)) = refl
+broken-reply t s (sound (Add c)) = refl
+broken-reply t s (sound (Drop c)) = refl
 
 too-short : (r : List Terms) (s : List ℕ) (room : ℕ) → ltb room leastBuffer ≡ true → formOf r s room ≡ faulty BufferTooSmall
 unfolding formOf
 too-short r s room e = rw e
 
 -- in a buffer of any length: in one that is too short nothing is written
-pub reply-fits : (t : Table) (s buffer : List ℕ) (a : Answer) → length (replyAfter t s (length buffer) a) ≤ length buffer
-unfolding replyAfter
-reply-fits t s buffer a = by (ltb (length buffer) leastBuffer) refl
-  where
-    by : (b : Bool) → ltb (length buffer) leastBuffer ≡ b → length (formReply t s (formOf (roster t) s (length buffer)) a) ≤ length buffer
-    by true e = rw (too-short (roster t) s (length buffer) e) (omega arith)
-    by false e = form-fits t s buffer (ltb-false _ _ e) a (formOf (roster t) s (length buffer)) (form-says (roster t) s (length buffer))
+module _ (t : Table) (s buffer : List ℕ) where
+  abbrev form : Form
+  form = formOf (roster t) s (length buffer)
+
+  kept-fits : rulesHold t ≡ true → length (formReply t s form (formAnswer t s form)) ≤ length buffer
+  kept-fits h = by (ltb (length buffer) leastBuffer) refl
+    where
+      by : (b : Bool) → ltb (length buffer) leastBuffer ≡ b → length (formReply t s form (formAnswer t s form)) ≤ length buffer
+      by true e = rw (too-short (roster t) s (length buffer) e) (omega arith)
+      by false e = form-fits t s buffer (ltb-false _ _ e) h form (form-says (roster t) s (length buffer))
+
+  reply-fits : length (replyAfter t s (length buffer) (answerOf t s (length buffer))) ≤ length buffer
+  unfolding replyAfter answerOf
+  reply-fits = by (rulesHold t) refl
+    where
+      by : (b : Bool) → rulesHold t ≡ b → length (formReply t s form (cond (not b) TableBroken (formAnswer t s form))) ≤ length buffer
+      by true e = kept-fits e
+      by false e = rw (broken-reply t s form) (omega arith)
 
 pub buffer-after : BufferAfter
 buffer-after t s buffer = record { reply = in-front; none = λ e. nothing (replyAfter t s (length buffer) a) e }
@@ -142,24 +199,33 @@ buffer-after t s buffer = record { reply = in-front; none = λ e. nothing (reply
     r = replyAfter t s (length buffer) a
 
     in-front : InFront r buffer (atFront r buffer)
-    in-front = record { front = front-taken r buffer (length r) refl; behind = front-dropped r buffer; long = front-length r buffer (reply-fits t s buffer a) }
+    in-front = record { front = front-taken r buffer (length r) refl; behind = front-dropped r buffer; long = front-length r buffer (reply-fits t s buffer) }
 
     nothing : (r : List ℕ) → length r ≡ 0 → atFront r buffer ≡ buffer
     nothing [] e = nothing-written buffer
     nothing (x ∷ r) e = let z : ⊥ = omega arith in absurd z
 
-reply-sum : (t : Table) (s buffer : List ℕ) (a : Answer) → Bytes s → t .address < 0x100000000 → t .next < 0x100000000
-    → 0 < length (replyAfter t s (length buffer) a) → wordsSum (replyAfter t s (length buffer) a) ≡ 65535
-unfolding replyAfter
-reply-sum t s buffer a bytes address next some = by (ltb (length buffer) leastBuffer) refl
-  where
-    by : (b : Bool) → ltb (length buffer) leastBuffer ≡ b → wordsSum (formReply t s (formOf (roster t) s (length buffer)) a) ≡ 65535
-    by true e =
-        let none : formReply t s (formOf (roster t) s (length buffer)) a ≡ [] = rw (too-short (roster t) s (length buffer) e) in
-        let z : ⊥ = omega (arith, some, ap length none) in
-        absurd z
-    by false e = form-sum t s buffer (ltb-false _ _ e) a bytes address next (formOf (roster t) s (length buffer)) (form-says (roster t) s (length buffer)) some
+module _ (t : Table) (s buffer : List ℕ) (bytes : Bytes s) (address : t .address < 0x100000000) (next : t .next < 0x100000000) (names : (i : ℕ) → Bytes (callAt t i .name)) where
+  kept-sum : rulesHold t ≡ true → 0 < length (formReply t s (form t s buffer) (formAnswer t s (form t s buffer)))
+      → wordsSum (formReply t s (form t s buffer) (formAnswer t s (form t s buffer))) ≡ 65535
+  kept-sum h some = by (ltb (length buffer) leastBuffer) refl
+    where
+      by : (b : Bool) → ltb (length buffer) leastBuffer ≡ b → wordsSum (formReply t s (form t s buffer) (formAnswer t s (form t s buffer))) ≡ 65535
+      by true e =
+          let none : formReply t s (form t s buffer) (formAnswer t s (form t s buffer)) ≡ [] = rw (too-short (roster t) s (length buffer) e) in
+          let z : ⊥ = omega (arith, some, ap length none) in
+          absurd z
+      by false e = form-sum t s buffer (ltb-false _ _ e) h bytes address next names (form t s buffer) (form-says (roster t) s (length buffer)) some
+
+  reply-sum : 0 < length (replyAfter t s (length buffer) (answerOf t s (length buffer))) → wordsSum (replyAfter t s (length buffer) (answerOf t s (length buffer))) ≡ 65535
+  unfolding replyAfter answerOf
+  reply-sum = by (rulesHold t) refl
+    where
+      by : (b : Bool) → rulesHold t ≡ b → 0 < length (formReply t s (form t s buffer) (cond (not b) TableBroken (formAnswer t s (form t s buffer))))
+          → wordsSum (formReply t s (form t s buffer) (cond (not b) TableBroken (formAnswer t s (form t s buffer)))) ≡ 65535
+      by true e h = kept-sum e h
+      by false e h = let z : ⊥ = omega (arith, h, ap length (broken-reply t s (form t s buffer))) in absurd z
 
 pub reply-adds-up : ReplyAddsUp
-reply-adds-up t s buffer bytes address next some =
-    ap wordsSum (buffer-after t s buffer .reply .front) ∙ reply-sum t s buffer (answerOf t s (length buffer)) bytes address next some
+reply-adds-up t s buffer bytes address next names some =
+    ap wordsSum (buffer-after t s buffer .reply .front) ∙ reply-sum t s buffer bytes address next names some

@@ -30,17 +30,17 @@ use Rattle.spec_changes.proofs.Fresh.{fresh-shape}
 use Rattle.answers.specs.declared.answer.Answer.{Answer}
 use Rattle.answers.specs.Answers.{answerNumber, is}
 use Rattle.spec_calls.specs.Form.{Form, faulty, sound, formOf}
-use Rattle.spec_calls.specs.CallRules.{idsIn, isOpen, shortInUse, longInUse}
+use Rattle.spec_calls.specs.CallRules.{idsIn, isRetry, shortTaken, longTaken}
 use Rattle.spec_calls.specs.PathRules.{lspOf, heldBy}
 use Rattle.spec_calls.specs.Handling.{formAnswer, answerFrom2}
-use Rattle.spec_promises.specs.Ledger.{Fed, fourOf, lowestSlot, feed, ledger, answered}
+use Rattle.spec_promises.specs.Ledger.{Fed, fourOf, withOpened, feed, ledger, answered}
 use Rattle.spec_promises.specs.Connections.{heldOf, feedHeld, connectionsAfter}
 use Rattle.spec_promises.specs.Promises.{Input, fed, tableThen, AtEveryStep, dueAnswer, Promised, Agrees}
 use Rattle.spec_promises.specs.Claims.{Demand3, Demand3From, AgreesThroughout, AgreesFrom, ConnectionsThroughout, ConnectionsFrom}
 use Rattle.spec_calls.proofs.Decided.{open-never, open-same, close-never, add-never, drop-never}
 use Rattle.spec_promises.proofs.Due.{open-due}
 use Rattle.spec_promises.proofs.Formed.{Says, form-says}
-use Rattle.spec_promises.proofs.Step.{answer-is, step-agrees, step-roster, step-closes, step-held}
+use Rattle.spec_promises.proofs.Step.{answer-is, step-agrees, step-roster, step-opens, step-closes, step-held}
 use Rattle.spec_promises.proofs.Named.{form-stays, retry-is-21, setup-cause}
 
 -- ---- opened is count and closed
@@ -68,13 +68,12 @@ one-less a l c h once =
         )
     by false p = omega (arith, count-split (from a) (isCall c) l, count-without (from a) (isCall c) l)
 
-sums-by : (a : ℕ) (l : List Entry) (slot : ℕ) (c : Ids) (b d : Bool) (o k : ℕ) → (b ≡ true → d ≡ false) → (d ≡ true → 0 < countIf (isCall c) l)
-    → countIf (λ e. sameShort c (e .ids)) l ≤ 1 → o ≡ callsOf l a + k
-    → bit (b && eqb (c .sender) a) + o
-    ≡ callsOf (cond b (record { slot = slot; ids = c } ∷ l) (cond d (without (isCall c) l) l)) a + (bit (d && eqb (c .sender) a) + k)
-sums-by a l slot c true d o k n m u h = rw (n refl) (omega arith)
-sums-by a l slot c false true o k n m u h = omega (arith, one-less a l c (m refl) u)
-sums-by a l slot c false false o k n m u h = omega arith
+sums-by : (a : ℕ) (l m : List Entry) (c : Ids) (b d : Bool) (o k : ℕ) → (b ≡ true → d ≡ false) → (b ≡ true → callsOf m a ≡ bit (eqb (c .sender) a) + callsOf l a)
+    → (d ≡ true → 0 < countIf (isCall c) l) → countIf (λ e. sameShort c (e .ids)) l ≤ 1 → o ≡ callsOf l a + k
+    → bit (b && eqb (c .sender) a) + o ≡ callsOf (cond b m (cond d (without (isCall c) l) l)) a + (bit (d && eqb (c .sender) a) + k)
+sums-by a l m c true d o k n e f u h = rw (n refl) (omega (arith, e refl))
+sums-by a l m c false true o k n e f u h = omega (arith, one-less a l c (f refl) u)
+sums-by a l m c false false o k n e f u h = omega arith
 
 -- no answer is both
 not-both : (a : Answer) → is 20 a ≡ true → is 22 a ≡ false
@@ -83,7 +82,7 @@ not-both a h = rw (eqb-true (answerNumber a) 20 h)
 module _ (t : Table) (l : List Entry) (g : Agrees t l) where
   form-never-1 : (s : List ℕ) (f : Form) → Says (roster t) s f → is 1 (formAnswer t s f) ≡ false
   form-never-1 s (faulty a) i = i .not1
-  form-never-1 s (sound (Open q)) i = open-never (totalOf t) (roster t) (entries t) (idsIn s q) 1 refl refl refl refl refl
+  form-never-1 s (sound (Open q)) i = open-never (totalOf t) (roster t) (entries t) s q 1 refl refl refl refl refl
   form-never-1 s (sound (Close q)) i = close-never (entries t) (held t) (idsIn s q) 1 refl refl refl
   form-never-1 s (sound (Add c)) i = add-never (entries t) (held t) (heldBy c) 1 refl refl refl refl refl
   form-never-1 s (sound (Drop c)) i = drop-never (held t) (lspOf (c .lsp)) 1 refl refl
@@ -103,8 +102,9 @@ module _ (t : Table) (l : List Entry) (g : Agrees t l) where
         → bit (is 20 (fed t x .answer) && eqb (fourOf (x .message) .sender) a) + o
         ≡ callsOf (feed (totalOf t) (fed t x) l) a + (bit (is 22 (fed t x .answer) && eqb (fourOf (x .message) .sender) a) + k)
     counted a o k e =
-        sums-by a l (lowestSlot l (totalOf t)) (fourOf (x .message)) (is 20 (fed t x .answer)) (is 22 (fed t x .answer)) o k
+        sums-by a l (withOpened (totalOf t) l (x .message)) (fourOf (x .message)) (is 20 (fed t x .answer)) (is 22 (fed t x .answer)) o k
         (not-both (fed t x .answer))
+        (λ e. step-opens t l g x e a)
         (λ q. step-closes t l g x q .0)
         (rw (← (g .calls (λ e. sameShort (fourOf (x .message)) (e .ids)))) (rules-kept t (g .rules) .calls .shorts (fourOf (x .message)))) e
 
@@ -114,11 +114,11 @@ module _ (t : Table) (l : List Entry) (g : Agrees t l) where
         rw (← (n .calls (from a)), ← (step-roster t l g x)) (rules-kept (tableThen t x) (n .rules) .calls .limits a (rw (step-roster t l g x) known))
 
     due : (q : CallRequest) → formOf (roster t) (x .message) (length (x .buffer)) ≡ sound (Open q)
-        → isOpen l (idsIn (x .message) q) ≡ false → longInUse l (idsIn (x .message) q) ≡ false → shortInUse l (idsIn (x .message) q) ≡ false
+        → isRetry l (x .message) q ≡ false → longTaken l (x .message) q ≡ false → shortTaken l (x .message) q ≡ false
         → answerNumber (fed t x .answer) ≡ dueAnswer (totalOf t) (roster t) l (q .sender)
     due q e a b c =
-        rw (answer, e, open-same (totalOf t) (roster t) (entries t) l (idsIn (x .message) q) (g .calls))
-        (open-due (totalOf t) (roster t) l (idsIn (x .message) q)
+        rw (answer, e, open-same (totalOf t) (roster t) (entries t) l (x .message) q (g .calls))
+        (open-due (totalOf t) (roster t) l (x .message) q
         (guarantee-within (totalOf t) (roster t) (q .sender) (roster-kept t (rules-kept t (g .rules) .accepted) .shares)) a b c)
 
 -- ---- the whole list

@@ -4,15 +4,16 @@ use Prim.Native.Nat.{ℕ, _≤_, _<_}
 use native.Mathlib.Omega.{arith}
 use mathlib.Core.Path.{_≡_, refl}
 use mathlib.Core.List.{List}
-use mathlib.Core.Bool.{Bool, true, false, cond, _&&_, _||_}
+use mathlib.Core.Bool.{Bool, true, false, cond, not, _&&_, _||_}
 use lib.Dec.{ltb, leb, eqb}
 use borrow.Author.Tests.{eqb-false, ne-eqb, ltb-true, ltb-false, le-leb, lt-leb}
 use Rattle.numbers.specs.Search.{isIn}
-use Rattle.table.specs.Lists.{Terms, Ids, Entry}
+use Rattle.messages.specs.declared.message.CallRequest.{CallRequest}
+use Rattle.table.specs.Lists.{Terms, Entry}
 use Rattle.table.specs.Share.{guaranteeOf, limitOf, callsOf, S}
 use Rattle.answers.specs.declared.answer.Answer.the-variants.{CallOpened, NoShare}
 use Rattle.answers.specs.Answers.{answerNumber}
-use Rattle.spec_calls.specs.CallRules.{isOpen, shortInUse, longInUse, shareUsedUp, openAnswer}
+use Rattle.spec_calls.specs.CallRules.{nameless, isRetry, shortTaken, longTaken, shareUsedUp, openAnswer}
 use Rattle.spec_calls.proofs.Decided.{openBy, ShareSays, share-says}
 use Rattle.spec_promises.specs.Promises.{dueAnswer, Cause}
 
@@ -20,27 +21,32 @@ use Rattle.spec_promises.specs.Promises.{dueAnswer, Cause}
 other {ℓ} : {A : Type ℓ} (m n : ℕ) → eqb m n ≡ false → m ≡ n → A
 other m n e q = absurd (eqb-false m n e q)
 
-module _ (total : ℕ) (r : List Terms) (l : List Entry) (c : Ids) where
-  -- every refusal has its cause
-  cause-by : (x y z w : Bool) → isOpen l c ≡ x → longInUse l c ≡ y → shortInUse l c ≡ z → shareUsedUp total r l (c .sender) ≡ w
-      → Cause total r l c (answerNumber (openBy x y z w))
-  unfolding isIn ShareSays
-  cause-by true y z w a b d e = record { short = other 21 30 refl; long = other 21 31 refl; share = other 21 34 refl; only = refl }
-  cause-by false true z w a b d e = record { short = other 31 30 refl; long = λ n. (b, a); share = other 31 34 refl; only = refl }
-  cause-by false false true w a b d e = record { short = λ n. (d, b); long = other 30 31 refl; share = other 30 34 refl; only = refl }
-  cause-by false false false true a b d e =
-      record { short = other 34 30 refl; long = other 34 31 refl; share = λ n. share-says total r l (c .sender) true e; only = refl }
-  cause-by false false false false a b d e = record { short = other 20 30 refl; long = other 20 31 refl; share = other 20 34 refl; only = refl }
+-- no ID of a request without names is in use
+never {ℓ} : {A : Type ℓ} (n u : Bool) → n ≡ true → (not n && u) ≡ true → A
+never true u e h = let z : _≡_ {A = ℕ} 0 1 = cc in absurd (omega arith)
+never false u e h = let z : _≡_ {A = ℕ} 0 1 = cc in absurd (omega arith)
 
-  pub open-cause : Cause total r l c (answerNumber (openAnswer total r l c))
+module _ (total : ℕ) (r : List Terms) (l : List Entry) (s : List ℕ) (q : CallRequest) where
+  -- every refusal has its cause
+  cause-by : (x y z w : Bool) → isRetry l s q ≡ x → longTaken l s q ≡ y → shortTaken l s q ≡ z → shareUsedUp total r l (q .sender) ≡ w
+      → Cause total r l s q (answerNumber (openBy x y z w))
+  unfolding isIn ShareSays
+  cause-by true y z w a b d e = record { short = other 21 30 refl; long = other 21 31 refl; share = other 21 34 refl; only = refl; unnamed = λ n. refl }
+  cause-by false true z w a b d e = record { short = other 31 30 refl; long = λ n. (b, a); share = other 31 34 refl; only = refl; unnamed = λ n. never (nameless q) _ n b }
+  cause-by false false true w a b d e = record { short = λ n. (d, b); long = other 30 31 refl; share = other 30 34 refl; only = refl; unnamed = λ n. never (nameless q) _ n d }
+  cause-by false false false true a b d e =
+      record { short = other 34 30 refl; long = other 34 31 refl; share = λ n. share-says total r l (q .sender) true e; only = refl; unnamed = λ n. refl }
+  cause-by false false false false a b d e = record { short = other 20 30 refl; long = other 20 31 refl; share = other 20 34 refl; only = refl; unnamed = λ n. refl }
+
+  pub open-cause : Cause total r l s q (answerNumber (openAnswer total r l s q))
   unfolding openAnswer
-  open-cause = cause-by (isOpen l c) (longInUse l c) (shortInUse l c) (shareUsedUp total r l (c .sender)) refl refl refl refl
+  open-cause = cause-by (isRetry l s q) (longTaken l s q) (shortTaken l s q) (shareUsedUp total r l (q .sender)) refl refl refl refl
 
   -- the share alone decides on a new call
-  due-by : guaranteeOf r (c .sender) ≤ limitOf r (c .sender) → (b : Bool) → shareUsedUp total r l (c .sender) ≡ b
-      → answerNumber (cond b NoShare CallOpened) ≡ dueAnswer total r l (c .sender)
+  due-by : guaranteeOf r (q .sender) ≤ limitOf r (q .sender) → (b : Bool) → shareUsedUp total r l (q .sender) ≡ b
+      → answerNumber (cond b NoShare CallOpened) ≡ dueAnswer total r l (q .sender)
   unfolding dueAnswer shareUsedUp
-  due-by g b h = by (ltb (callsOf l (c .sender)) (guaranteeOf r (c .sender))) refl
+  due-by g b h = by (ltb (callsOf l (q .sender)) (guaranteeOf r (q .sender))) refl
     where
       rest : (x y z b : Bool) → y ≡ true → (x || (y && z)) ≡ b → answerNumber (cond b NoShare CallOpened) ≡ cond (x || z) 34 20
       rest true y z true e h = refl
@@ -57,17 +63,17 @@ module _ (total : ℕ) (r : List Terms) (l : List Entry) (c : Ids) where
       below false false z true e f h = cc
       below false false z false e f h = refl
 
-      by : (s : Bool) → ltb (callsOf l (c .sender)) (guaranteeOf r (c .sender)) ≡ s
-          → answerNumber (cond b NoShare CallOpened) ≡ cond s 20 (cond (eqb (callsOf l (c .sender)) (limitOf r (c .sender)) || eqb (S r l) total) 34 20)
+      by : (u : Bool) → ltb (callsOf l (q .sender)) (guaranteeOf r (q .sender)) ≡ u
+          → answerNumber (cond b NoShare CallOpened) ≡ cond u 20 (cond (eqb (callsOf l (q .sender)) (limitOf r (q .sender)) || eqb (S r l) total) 34 20)
       by true e =
-          let k : callsOf l (c .sender) < guaranteeOf r (c .sender) = ltb-true _ _ e in
-          below (eqb (callsOf l (c .sender)) (limitOf r (c .sender))) (leb (guaranteeOf r (c .sender)) (callsOf l (c .sender))) (eqb (S r l) total) b
-          (ne-eqb _ _ (λ (q : callsOf l (c .sender) ≡ limitOf r (c .sender)). omega arith)) (lt-leb (guaranteeOf r (c .sender)) (callsOf l (c .sender)) k) h
+          let k : callsOf l (q .sender) < guaranteeOf r (q .sender) = ltb-true _ _ e in
+          below (eqb (callsOf l (q .sender)) (limitOf r (q .sender))) (leb (guaranteeOf r (q .sender)) (callsOf l (q .sender))) (eqb (S r l) total) b
+          (ne-eqb _ _ (λ (z : callsOf l (q .sender) ≡ limitOf r (q .sender)). omega arith)) (lt-leb (guaranteeOf r (q .sender)) (callsOf l (q .sender)) k) h
       by false e =
-          rest (eqb (callsOf l (c .sender)) (limitOf r (c .sender))) (leb (guaranteeOf r (c .sender)) (callsOf l (c .sender))) (eqb (S r l) total) b
-          (le-leb (guaranteeOf r (c .sender)) (callsOf l (c .sender)) (ltb-false _ _ e)) h
+          rest (eqb (callsOf l (q .sender)) (limitOf r (q .sender))) (leb (guaranteeOf r (q .sender)) (callsOf l (q .sender))) (eqb (S r l) total) b
+          (le-leb (guaranteeOf r (q .sender)) (callsOf l (q .sender)) (ltb-false _ _ e)) h
 
-  pub open-due : guaranteeOf r (c .sender) ≤ limitOf r (c .sender) → isOpen l c ≡ false → longInUse l c ≡ false → shortInUse l c ≡ false
-      → answerNumber (openAnswer total r l c) ≡ dueAnswer total r l (c .sender)
+  pub open-due : guaranteeOf r (q .sender) ≤ limitOf r (q .sender) → isRetry l s q ≡ false → longTaken l s q ≡ false → shortTaken l s q ≡ false
+      → answerNumber (openAnswer total r l s q) ≡ dueAnswer total r l (q .sender)
   unfolding openAnswer
-  open-due g p q s = rw (p, q, s) (due-by g (shareUsedUp total r l (c .sender)) refl)
+  open-due g a b d = rw (a, b, d) (due-by g (shareUsedUp total r l (q .sender)) refl)

@@ -17,13 +17,13 @@ use Rattle.messages.specs.Read.{readOf}
 use Rattle.messages.specs.Inside.{Inside}
 use Rattle.messages.proofs.Inside.{read-inside}
 use Rattle.reply_objects.specs.Buffer.{leastBuffer}
-use Rattle.table.specs.Lists.{Terms}
+use Rattle.table.specs.Lists.{Terms, Entry}
 use Rattle.table.specs.Share.{isListed}
 use Rattle.answers.specs.declared.answer.Answer.{Answer}
 use Rattle.answers.specs.declared.answer.Answer.the-variants.{BufferTooSmall, Malformed, SenderNotListed}
 use Rattle.answers.specs.Answers.{answerNumber, is}
 use Rattle.spec_calls.specs.Form.{Form, faulty, sound, senderOf, listedOr11, readForm, formOf}
-use Rattle.spec_promises.specs.Ledger.{messageFour, fourOf}
+use Rattle.spec_promises.specs.Ledger.{messageFour, fourOf, messageOpened, withOpened}
 use Rattle.spec_promises.specs.Connections.{messageHeld, heldOf}
 
 -- a fault is not answered 1, and its number lies below those of the rules
@@ -39,6 +39,7 @@ pub record Sound-says (r : List Terms) (s : List ℕ) (m : Message) : Type 0 whe
   pub known : isListed r (senderOf m) ≡ true
   pub inside : Inside s m
   pub four : fourOf s ≡ messageFour s m
+  pub opened : (total : ℕ) (l : List Entry) → withOpened total l s ≡ messageOpened total l s m
   pub connection : heldOf s ≡ messageHeld m
 
 abbrev pub Says : List Terms → List ℕ → Form → Type 0
@@ -67,10 +68,10 @@ module _ (r : List Terms) (s : List ℕ) where
       by false h = record { not1 = refl; under20 = refl }
 
   read-says : (x : Reading) → readOf s ≡ x → Says r s (readForm r x)
-  unfolding fourOf heldOf
+  unfolding fourOf withOpened heldOf
   read-says (Refused fault offset headers) e = numbered fault
   read-says (Unfit fault sender headers) e = listed-says sender (faulty (Malformed fault)) (λ h. numbered fault)
-  read-says (Read m headers) e = listed-says (senderOf m) (sound m) (λ h. record { known = h; inside = read-inside s m headers e; four = rw e; connection = rw e })
+  read-says (Read m headers) e = listed-says (senderOf m) (sound m) (λ h. record { known = h; inside = read-inside s m headers e; four = rw e; opened = λ total l. rw e; connection = rw e })
 
   pub form-says : (room : ℕ) → Says r s (formOf r s room)
   unfolding formOf

@@ -1,10 +1,10 @@
 -- What a customer asks for by name: retries, refusals, the roster's form, the table rules, and calls with connections. The
 -- statements are those of specs/Claims.antt.
 -- Assumes nothing.
-use Prim.Native.Nat.{ℕ, _<_}
+use Prim.Native.Nat.{ℕ, _≤_, _<_}
 use native.Mathlib.Omega.{arith}
 use mathlib.Core.Path.{_≡_, refl}
-use mathlib.Core.List.{List, _∷_}
+use mathlib.Core.List.{List}
 use mathlib.Core.Bool.{Bool, true, false, cond, _&&_}
 use lib.Dec.{eqb}
 use lib.ListN.{length}
@@ -12,7 +12,11 @@ use borrow.Author.Tests.{eqb-true}
 use Rattle.lists.specs.Count.{countIf, has, without}
 use Rattle.lists.proofs.Tests.{both}
 use Rattle.lists.proofs.Count.{has-true, has-false, true-has, has-nothing, count-ext, count-split, count-without}
+use Rattle.messages.specs.declared.message.Message.{Message}
 use Rattle.messages.specs.declared.message.Message.the-variants.{Open, Close, Add, Drop}
+use Rattle.messages.specs.declared.read.Reading.{Reading}
+use Rattle.messages.specs.declared.read.Reading.the-variants.{Refused, Unfit, Read}
+use Rattle.messages.specs.Read.{readOf}
 use Rattle.table.specs.Table.{Table}
 use Rattle.table.specs.Total.{totalOf}
 use Rattle.table.specs.Lists.{roster, Ids, Entry, entries, Held, held}
@@ -25,10 +29,11 @@ use Rattle.answers.specs.declared.answer.Answer.{Answer}
 use Rattle.answers.specs.declared.answer.Answer.the-variants.{TableBroken, BufferTooSmall, Malformed, SenderNotListed, UnderOtherCall, NotHeld, CallOpened, CallAlreadyOpen, CallClosed, ConnectionAdded, ConnectionAlreadyHeld, ConnectionRemoved, CallIdContention, DuplicateCall, ConnectionsStillExist, UnknownCall, NoShare, PathUnknownCall, NoPlaceLeft}
 use Rattle.answers.specs.Answers.{answerNumber, is, sendsNotify}
 use Rattle.spec_calls.specs.Form.{Form, faulty, sound, formOf}
-use Rattle.spec_calls.specs.CallRules.{idsIn, isOpen}
+use Rattle.spec_calls.specs.CallRules.{idsIn, isNamedBy, isOpen}
+use Rattle.spec_calls.specs.Made.{newFor}
 use Rattle.spec_calls.specs.PathRules.{lspOf, heldBy}
 use Rattle.spec_calls.specs.Handling.{formTable, tableAfter}
-use Rattle.spec_promises.specs.Ledger.{fourOf, lowestSlot}
+use Rattle.spec_promises.specs.Ledger.{fourOf, messageOpened, readOpened, withOpened}
 use Rattle.spec_promises.specs.Promises.{fed, tableThen, Unchanged}
 use Rattle.spec_promises.specs.Claims.{FormStays, RulesAfter, BusyCallStays, RetryIs21, SetupCause, RefusedUnchanged, QuietUnchanged}
 use Rattle.spec_calls.proofs.Decided.{open-again, open-same}
@@ -51,7 +56,7 @@ no-change t u false false e = as-it-was t
 form-unchanged : (t : Table) (s : List ℕ) (f : Form) (a : Answer) → is 20 a ≡ false → is 22 a ≡ false → is 23 a ≡ false → is 25 a ≡ false
     → Unchanged t (formTable t s f a)
 form-unchanged t s (faulty _) a e20 e22 e23 e25 = as-it-was t
-form-unchanged t s (sound (Open q)) a e20 e22 e23 e25 = no-change t (opened t (idsIn s q)) (is 20 a) (sendsNotify a) e20
+form-unchanged t s (sound (Open q)) a e20 e22 e23 e25 = no-change t (opened t (newFor (entries t) s q)) (is 20 a) (sendsNotify a) e20
 form-unchanged t s (sound (Close q)) a e20 e22 e23 e25 = no-change t (closed t (idsIn s q)) (is 22 a) (sendsNotify a) e22
 form-unchanged t s (sound (Add c)) a e20 e22 e23 e25 = no-change t (added t (heldBy c)) (is 23 a) (sendsNotify a) e23
 form-unchanged t s (sound (Drop c)) a e20 e22 e23 e25 = no-change t (removed t (lspOf (c .lsp))) (is 25 a) (sendsNotify a) e25
@@ -88,7 +93,7 @@ as-before t u b n e f = rw (e, f)
 
 form-quiet : (t : Table) (s : List ℕ) (f : Form) (a : Answer) → sendsNotify a ≡ false → is 23 a ≡ false → is 25 a ≡ false → formTable t s f a ≡ t
 form-quiet t s (faulty _) a n e23 e25 = refl
-form-quiet t s (sound (Open q)) a n e23 e25 = as-before t (opened t (idsIn s q)) (is 20 a) (sendsNotify a) (notified a n .0) n
+form-quiet t s (sound (Open q)) a n e23 e25 = as-before t (opened t (newFor (entries t) s q)) (is 20 a) (sendsNotify a) (notified a n .0) n
 form-quiet t s (sound (Close q)) a n e23 e25 = as-before t (closed t (idsIn s q)) (is 22 a) (sendsNotify a) (notified a n .1) n
 form-quiet t s (sound (Add c)) a n e23 e25 = as-before t (added t (heldBy c)) (is 23 a) (sendsNotify a) e23 n
 form-quiet t s (sound (Drop c)) a n e23 e25 = as-before t (removed t (lspOf (c .lsp))) (is 25 a) (sendsNotify a) e25 n
@@ -108,7 +113,7 @@ same-form t u false false e = refl
 
 form-same : (t : Table) (s : List ℕ) (f : Form) (a : Answer) → formTable t s f a .form ≡ t .form
 form-same t s (faulty _) a = refl
-form-same t s (sound (Open q)) a = same-form t (opened t (idsIn s q)) (is 20 a) (sendsNotify a) (opened-form t (idsIn s q))
+form-same t s (sound (Open q)) a = same-form t (opened t (newFor (entries t) s q)) (is 20 a) (sendsNotify a) (opened-form t (newFor (entries t) s q))
 form-same t s (sound (Close q)) a = same-form t (closed t (idsIn s q)) (is 22 a) (sendsNotify a) (closed-form t (idsIn s q))
 form-same t s (sound (Add c)) a = same-form t (added t (heldBy c)) (is 23 a) (sendsNotify a) (added-form t (heldBy c))
 form-same t s (sound (Drop c)) a = same-form t (removed t (lspOf (c .lsp))) (is 25 a) (sendsNotify a) (removed-form t (lspOf (c .lsp)))
@@ -127,7 +132,7 @@ retry-is-21 t l g x q e known = (number, refused-unchanged t x (other 20 refl) (
         rw (
           answer-is t (x .message) (length (x .buffer)) (g .rules),
           e,
-          open-again (totalOf t) (roster t) (entries t) (idsIn (x .message) q) (rw (g .calls (isCall (idsIn (x .message) q))) known),
+          open-again (totalOf t) (roster t) (entries t) (x .message) q (rw (g .calls (isNamedBy (x .message) q)) known),
         )
 
     other : (n : ℕ) → eqb 21 n ≡ false → is n (fed t x .answer) ≡ false
@@ -137,8 +142,8 @@ retry-is-21 t l g x q e known = (number, refused-unchanged t x (other 20 refl) (
 
 pub setup-cause : SetupCause
 setup-cause t l g x q e =
-    rw (answer-is t (x .message) (length (x .buffer)) (g .rules), e, open-same (totalOf t) (roster t) (entries t) l (idsIn (x .message) q) (g .calls))
-    (open-cause (totalOf t) (roster t) l (idsIn (x .message) q))
+    rw (answer-is t (x .message) (length (x .buffer)) (g .rules), e, open-same (totalOf t) (roster t) (entries t) l (x .message) q (g .calls))
+    (open-cause (totalOf t) (roster t) l (x .message) q)
 
 -- ---- the rules hold after every message
 
@@ -177,17 +182,33 @@ apart-from h c d busy idle e = by (isCall d e) (isCall c e) refl refl
     by true false p q = refl
     by false b p q = refl
 
-stays : (l : List Entry) (slot : ℕ) (c d : Ids) (b k : Bool) → (k ≡ true → (e : Entry) → (isCall d e && isCall c e) ≡ false) → 0 < countIf (isCall c) l
-    → 0 < countIf (isCall c) (cond b (record { slot = slot; ids = d } ∷ l) (cond k (without (isCall d) l) l))
-stays l slot c d true k apart h = omega arith
-stays l slot c d false true apart h =
+-- an opening takes no entry away
+opened-more : (total : ℕ) (l : List Entry) (s : List ℕ) (p : Entry → Bool) → countIf p l ≤ countIf p (withOpened total l s)
+unfolding withOpened
+opened-more total l s p = by (readOf s)
+  where
+    of : (m : Message) → countIf p l ≤ countIf p (messageOpened total l s m)
+    of (Open q) = omega arith
+    of (Close q) = omega arith
+    of (Add c) = omega arith
+    of (Drop c) = omega arith
+
+    by : (r : Reading) → countIf p l ≤ countIf p (readOpened total l s r)
+    by (Refused fault offset headers) = omega arith
+    by (Unfit fault sender headers) = omega arith
+    by (Read m headers) = of m
+
+stays : (l k : List Entry) (c d : Ids) (b r : Bool) → countIf (isCall c) l ≤ countIf (isCall c) k → (r ≡ true → (e : Entry) → (isCall d e && isCall c e) ≡ false)
+    → 0 < countIf (isCall c) l → 0 < countIf (isCall c) (cond b k (cond r (without (isCall d) l) l))
+stays l k c d true r more apart h = omega arith
+stays l k c d false true more apart h =
     omega (
       arith,
       count-without (isCall c) (isCall d) l,
       count-split (isCall c) (isCall d) l,
       has-false (λ e. isCall d e && isCall c e) l (has-nothing (λ e. isCall d e && isCall c e) l (apart refl)),
     )
-stays l slot c d false false apart h = h
+stays l k c d false false more apart h = h
 
 pub busy-call-stays : BusyCallStays
 busy-call-stays t l g x c known busy = (still, λ y under. connection-stays t l g x y)
@@ -196,6 +217,6 @@ busy-call-stays t l g x c known busy = (still, λ y under. connection-stays t l 
     still =
         true-has (isCall c) (entries (tableThen t x))
         (rw (step-agrees t l g x .calls (isCall c))
-        (stays l (lowestSlot l (totalOf t)) c (fourOf (x .message)) (is 20 (fed t x .answer)) (is 22 (fed t x .answer))
+        (stays l (withOpened (totalOf t) l (x .message)) c (fourOf (x .message)) (is 20 (fed t x .answer)) (is 22 (fed t x .answer)) (opened-more (totalOf t) l (x .message) (isCall c))
         (λ e. apart-from (held t) c (fourOf (x .message)) busy (step-closes t l g x e .1))
         (rw (← (g .calls (isCall c))) (has-true (isCall c) (entries t) known))))

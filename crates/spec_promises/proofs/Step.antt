@@ -1,26 +1,27 @@
 -- One message: table and ledger agree after it as before it, the roster stays, and connections come and go by it alone.
 -- Assumes nothing.
-use Prim.Native.Nat.{ℕ, suc, _<_}
+use Prim.Native.Nat.{ℕ, _+_, _<_}
 use native.Mathlib.Omega.{arith}
-use mathlib.Core.Path.{_≡_, refl, sym, _∙_}
-use mathlib.Core.Logic.{_≢_}
+use mathlib.Core.Path.{_≡_, refl}
 use mathlib.Core.List.{List, _∷_}
 use mathlib.Core.Bool.{Bool, true, false, cond}
-use lib.ListN.{length, getD, drop}
-use lib.Seq.{getD-take, getD-drop}
+use lib.Dec.{eqb}
+use lib.ListN.{length}
 use Rattle.numbers.specs.BigEndian.{Bytes}
-use Rattle.lists.specs.Count.{countIf, without}
+use Rattle.lists.specs.Count.{bit, countIf, without}
 use Rattle.messages.specs.declared.message.CallRequest.{CallRequest}
 use Rattle.messages.specs.declared.message.Connection.{Connection}
-use Rattle.messages.specs.Inside.{CallInside}
 use Rattle.messages.specs.declared.message.Message.the-variants.{Open, Close, Add, Drop}
-use Rattle.replies.proofs.Lengths.{part-length}
 use Rattle.table.specs.Table.{Table}
 use Rattle.table.specs.Total.{totalOf}
+use Rattle.table.specs.Word.{lowestFree}
 use Rattle.table.specs.Lists.{roster, Entry, entries, Held, held}
+use Rattle.table.specs.Share.{isListed, callsOf}
 use Rattle.table.specs.Rules.{isLsp, rulesHold}
-use Rattle.spec_changes.specs.Calls.{opened, isCall, closed, identifierTaken}
+use Rattle.spec_changes.specs.Calls.{entryFor, opened, isCall, closed, identifierTaken}
 use Rattle.spec_changes.specs.Connections.{added, removed, isUnder}
+use Rattle.spec_changes.proofs.Slot.{open-most}
+use Rattle.spec_changes.proofs.Kept.{MayOpen}
 use Rattle.spec_changes.proofs.Valid.{valid-place}
 use Rattle.spec_changes.proofs.Told.{rules-kept}
 use Rattle.spec_changes.proofs.Closed.{closed-held}
@@ -31,10 +32,13 @@ use Rattle.spec_calls.specs.Form.{Form, faulty, sound, formOf}
 use Rattle.spec_calls.specs.CallRules.{idsIn, openAnswer, closeAnswer}
 use Rattle.spec_calls.specs.PathRules.{lspOf, heldBy, addAnswer, dropAnswer}
 use Rattle.spec_calls.specs.Handling.{formAnswer, answerFrom2, answerOf, formTable, tableAfter}
-use Rattle.spec_promises.specs.Ledger.{fourOf, feed}
+use Rattle.spec_promises.specs.Ledger.{fourOf, withOpened, feed}
 use Rattle.spec_promises.specs.Connections.{feedHeld}
 use Rattle.spec_promises.specs.Promises.{Input, fed, tableThen, Agrees}
-use Rattle.spec_calls.proofs.Decided.{may-open, open-never, may-close, close-never, may-add, add-never, may-drop, drop-never}
+use Rattle.spec_calls.specs.Made.{newFor}
+use Rattle.spec_calls.proofs.Opening.{new-fits, new-sender, may-open}
+use Rattle.spec_calls.proofs.MadeSame.{new-same}
+use Rattle.spec_calls.proofs.Decided.{open-never, may-close, close-never, may-add, add-never, may-drop, drop-never}
 use Rattle.spec_promises.proofs.Formed.{Says, fault-never, form-says}
 use Rattle.spec_promises.proofs.Agreement.{next-agrees, open-agrees, open-held, close-agrees, add-agrees, remove-agrees}
 
@@ -45,12 +49,6 @@ never b e f = let z : _≡_ {A = ℕ} 0 1 = cc in absurd (omega arith)
 pub answer-is : (t : Table) (s : List ℕ) (room : ℕ) → rulesHold t ≡ true → answerOf t s room ≡ answerFrom2 t s room
 unfolding answerOf
 answer-is t s room h = rw h
-
--- the long ID of a request that was read ends in a byte that is not zero
-name-ends : (s : List ℕ) (q : CallRequest) → CallInside s q → (k : ℕ) → length (idsIn s q .long) ≡ suc k → getD (idsIn s q .long) k 0 ≢ 0
-name-ends s q i k e z =
-    let n = part-length s (q .name) (i .name) in
-    i .nameEnds k (sym n ∙ e) (sym (getD-take (q .name .size) (drop (q .name .at) s) k 0 (omega (arith, n, e)) ∙ getD-drop (q .name .at) s k 0) ∙ z)
 
 module _ (t : Table) (l : List Entry) (g : Agrees t l) where
   -- a change, where an answer makes it, and the identifier taken, where it sends a Notify
@@ -72,17 +70,19 @@ module _ (t : Table) (l : List Entry) (g : Agrees t l) where
       let m = may-add (entries t) (held t) (heldBy c) e in
       record { known = i .known; new = m .0; call = m .1; room = m .2; valid = valid-place (heldBy c .lsp) (i .inside .tunnelFits bytes) (i .inside .lspFits bytes) }
 
+  may-open-now : (s : List ℕ) (q : CallRequest) → isListed (roster t) (q .sender) ≡ true → is 20 (openAnswer (totalOf t) (roster t) (entries t) s q) ≡ true
+      → MayOpen (totalOf t) (roster t) (entries t) (entryFor (lowestFree (t .occupied)) (newFor (entries t) s q))
+  may-open-now s q known e = may-open (entries t) s q (totalOf t) (roster t) (lowestFree (t .occupied)) known (omega (arith, open-most t)) e
+
   module _ (s : List ℕ) (bytes : Bytes s) (room : ℕ) where
     form-agrees : (f : Form) → Says (roster t) s f
         → Agrees (formTable t s f (formAnswer t s f)) (feed (totalOf t) (record { message = s; room = room; answer = formAnswer t s f }) l)
     form-agrees (faulty a) i = rw (fault-never a i 20 (omega arith), fault-never a i 22 (omega arith)) g
     form-agrees (sound (Open q)) i =
-        let a = openAnswer (totalOf t) (roster t) (entries t) (idsIn s q) in
-        rw (i .four, open-never (totalOf t) (roster t) (entries t) (idsIn s q) 22 refl refl refl refl refl)
-        (by-answer (is 20 a) (sendsNotify a) (opened t (idsIn s q)) _
-        (λ e. open-agrees t l g (idsIn s q) (may-open (totalOf t) (roster t) (entries t) (idsIn s q) (i .known) e) (i .inside .callSome) (i .inside .callFits bytes)
-        (rw (part-length s (q .name) (i .inside .name)) (i .inside .nameSome)) (rw (part-length s (q .name) (i .inside .name)) (i .inside .nameMost))
-        (name-ends s q (i .inside))))
+        let a = openAnswer (totalOf t) (roster t) (entries t) s q in
+        rw (i .opened (totalOf t) l, open-never (totalOf t) (roster t) (entries t) s q 22 refl refl refl refl refl, ← (new-same (entries t) l (g .calls) s q))
+        (by-answer (is 20 a) (sendsNotify a) (opened t (newFor (entries t) s q)) _
+        (λ e. open-agrees t l g (newFor (entries t) s q) (may-open-now s q (i .known) e) (new-fits (entries t) s q bytes (i .inside .0) (i .inside .1) (omega (arith, open-most t)))))
     form-agrees (sound (Close q)) i =
         let a = closeAnswer (entries t) (held t) (idsIn s q) in
         rw (i .four, close-never (entries t) (held t) (idsIn s q) 20 refl refl refl)
@@ -117,8 +117,8 @@ module _ (t : Table) (l : List Entry) (g : Agrees t l) where
   unfolding opened closed
   form-roster s bytes (faulty a) i = refl
   form-roster s bytes (sound (Open q)) i =
-      let a = openAnswer (totalOf t) (roster t) (entries t) (idsIn s q) in
-      roster-by (is 20 a) (sendsNotify a) (opened t (idsIn s q)) (λ e. refl)
+      let a = openAnswer (totalOf t) (roster t) (entries t) s q in
+      roster-by (is 20 a) (sendsNotify a) (opened t (newFor (entries t) s q)) (λ e. refl)
   form-roster s bytes (sound (Close q)) i =
       let a = closeAnswer (entries t) (held t) (idsIn s q) in
       roster-by (is 22 a) (sendsNotify a) (closed t (idsIn s q)) (λ e. refl)
@@ -136,12 +136,28 @@ module _ (t : Table) (l : List Entry) (g : Agrees t l) where
       rw (answer-is t (x .message) room (g .rules))
       (form-roster (x .message) (x .bytes) (formOf (roster t) (x .message) room) (form-says (roster t) (x .message) room))
 
+  -- ---- 20 is given only to an open, and counts for its sender
+
+  form-opens : (s : List ℕ) (f : Form) → Says (roster t) s f → is 20 (formAnswer t s f) ≡ true → (a : ℕ)
+      → callsOf (withOpened (totalOf t) l s) a ≡ bit (eqb (fourOf s .sender) a) + callsOf l a
+  form-opens s (faulty b) i e a = never _ e (fault-never b i 20 (omega arith))
+  form-opens s (sound (Open q)) i e a = rw (i .opened (totalOf t) l, i .four, new-sender l s q)
+  form-opens s (sound (Close q)) i e a = never _ e (close-never (entries t) (held t) (idsIn s q) 20 refl refl refl)
+  form-opens s (sound (Add c)) i e a = never _ e (add-never (entries t) (held t) (heldBy c) 20 refl refl refl refl refl)
+  form-opens s (sound (Drop c)) i e a = never _ e (drop-never (held t) (lspOf (c .lsp)) 20 refl refl)
+
+  pub step-opens : (x : Input) → is 20 (fed t x .answer) ≡ true → (a : ℕ)
+      → callsOf (withOpened (totalOf t) l (x .message)) a ≡ bit (eqb (fourOf (x .message) .sender) a) + callsOf l a
+  step-opens x e =
+      let room = length (x .buffer) in
+      form-opens (x .message) (formOf (roster t) (x .message) room) (form-says (roster t) (x .message) room) (rw (answer-is t (x .message) room (g .rules)) at e)
+
   -- ---- 22 is given only to a call of the ledger that has no connections
   form-closes : (s : List ℕ) (f : Form) → Says (roster t) s f → is 22 (formAnswer t s f) ≡ true
       → (0 < countIf (isCall (fourOf s)) l) × (countIf (isUnder (fourOf s)) (held t) ≡ 0)
   form-closes s (faulty a) i e = never _ e (fault-never a i 22 (omega arith))
   form-closes s (sound (Open q)) i e =
-      never _ e (open-never (totalOf t) (roster t) (entries t) (idsIn s q) 22 refl refl refl refl refl)
+      never _ e (open-never (totalOf t) (roster t) (entries t) s q 22 refl refl refl refl refl)
   form-closes s (sound (Close q)) i e =
       rw (i .four, ← (g .calls (isCall (idsIn s q)))) (may-close (entries t) (held t) (idsIn s q) e)
   form-closes s (sound (Add c)) i e = never _ e (add-never (entries t) (held t) (heldBy c) 22 refl refl refl refl refl)
@@ -174,9 +190,9 @@ module _ (t : Table) (l : List Entry) (g : Agrees t l) where
         → countIf p (held (formTable t s f (formAnswer t s f))) ≡ countIf p (feedHeld (record { message = s; room = room; answer = formAnswer t s f }) (held t))
     form-held (faulty a) i = rw (fault-never a i 23 (omega arith), fault-never a i 25 (omega arith))
     form-held (sound (Open q)) i =
-        let a = openAnswer (totalOf t) (roster t) (entries t) (idsIn s q) in
-        rw (open-never (totalOf t) (roster t) (entries t) (idsIn s q) 23 refl refl refl refl refl, open-never (totalOf t) (roster t) (entries t) (idsIn s q) 25 refl refl refl refl refl)
-        (held-as-before (is 20 a) (sendsNotify a) (opened t (idsIn s q)) p (λ e. open-held t l g (idsIn s q) (may-open (totalOf t) (roster t) (entries t) (idsIn s q) (i .known) e) p))
+        let a = openAnswer (totalOf t) (roster t) (entries t) s q in
+        rw (open-never (totalOf t) (roster t) (entries t) s q 23 refl refl refl refl refl, open-never (totalOf t) (roster t) (entries t) s q 25 refl refl refl refl refl)
+        (held-as-before (is 20 a) (sendsNotify a) (opened t (newFor (entries t) s q)) p (λ e. open-held t l g (newFor (entries t) s q) (may-open-now s q (i .known) e) p))
     form-held (sound (Close q)) i =
         let a = closeAnswer (entries t) (held t) (idsIn s q) in
         rw (close-never (entries t) (held t) (idsIn s q) 23 refl refl refl, close-never (entries t) (held t) (idsIn s q) 25 refl refl refl)

@@ -12,13 +12,13 @@ use Rattle.messages.specs.declared.message.CallRequest.{CallRequest}
 use Rattle.messages.specs.declared.message.Message.the-variants.{Open}
 use Rattle.table.specs.Table.{Table}
 use Rattle.table.specs.Total.{totalOf}
-use Rattle.table.specs.Lists.{roster, Ids, Entry, entries, Held, held}
+use Rattle.table.specs.Lists.{roster, Ids, Entry, callAt, entries, Held, held}
 use Rattle.table.specs.Rules.{rulesHold}
 use Rattle.table.specs.Roster.{rosterNumber, customersIn, totalIn, recordsIn, rosterAnswer, tableFor}
 use Rattle.spec_changes.specs.Connections.{callMissing, isUnder}
 use Rattle.answers.specs.Answers.{answerNumber, is, sendsNotify}
 use Rattle.spec_calls.specs.Form.{sound, formOf}
-use Rattle.spec_calls.specs.CallRules.{idsIn, isOpen}
+use Rattle.spec_calls.specs.CallRules.{isOpen, isRetry}
 use Rattle.spec_calls.specs.Handling.{handled, replyAfter, answerOf}
 use Rattle.spec_promises.specs.Ledger.{Fed, ledger}
 use Rattle.spec_promises.specs.Connections.{connectionsAfter, isHeld, isTornDown, isSetUp}
@@ -103,15 +103,15 @@ BusyCallStays = AtOneMessage (λ t l x. (c : Ids) → isOpen (entries t) c ≡ t
 
 -- ---- retries and refusals
 
--- a setup that repeats an open call is answered 21, and calls and connections are as they were: no second copy
+-- a setup that repeats an open call, by its IDs or, without names, by its two numbers, is answered 21, and calls and connections are as they were: no second copy
 abbrev pub RetryIs21 : Type 0
 RetryIs21 = AtOneMessage (λ t l x. (q : CallRequest) → formOf (roster t) (x .message) (length (x .buffer)) ≡ sound (Open q)
-    → isOpen l (idsIn (x .message) q) ≡ true → (answerNumber (fed t x .answer) ≡ 21) × Unchanged t (tableThen t x))
+    → isRetry l (x .message) q ≡ true → (answerNumber (fed t x .answer) ≡ 21) × Unchanged t (tableThen t x))
 
 -- a setup that is refused had to be: each refusal has its cause in the ledger (01, Every answer)
 abbrev pub SetupCause : Type 0
 SetupCause = AtOneMessage (λ t l x. (q : CallRequest) → formOf (roster t) (x .message) (length (x .buffer)) ≡ sound (Open q)
-    → Cause (totalOf t) (roster t) l (idsIn (x .message) q) (answerNumber (fed t x .answer)))
+    → Cause (totalOf t) (roster t) l (x .message) q (answerNumber (fed t x .answer)))
 
 -- any table, any message: only 20, 22, 23 and 25 change calls or connections
 abbrev pub RefusedUnchanged : Type 0
@@ -142,7 +142,9 @@ pub record BufferHolds (t : Table) (s buffer : List ℕ) : Type 0 where
 abbrev pub BufferAfter : Type 0
 BufferAfter = (t : Table) (s buffer : List ℕ) → BufferHolds t s buffer
 
--- 01, Message layout: the words of every reply add up to FFFF. Every table that words are has numbers of 32 bits
+-- 01, Message layout: the words of every reply add up to FFFF. Every table that words are has numbers of 32 bits, and names
+-- of bytes
 abbrev pub ReplyAddsUp : Type 0
-ReplyAddsUp = (t : Table) (s buffer : List ℕ) → Bytes s → t .address < 0x100000000 → t .next < 0x100000000 → 0 < handled t s buffer .length
+ReplyAddsUp = (t : Table) (s buffer : List ℕ) → Bytes s → t .address < 0x100000000 → t .next < 0x100000000 → ((i : ℕ) → Bytes (callAt t i .name))
+    → 0 < handled t s buffer .length
     → wordsSum (take (handled t s buffer .length) (handled t s buffer .buffer)) ≡ 65535

@@ -12,10 +12,11 @@ use Rattle.messages.specs.declared.read.Reading.{Reading}
 use Rattle.messages.specs.declared.read.Reading.the-variants.{Refused, Unfit, Read}
 use Rattle.messages.specs.Read.{readOf}
 use Rattle.table.specs.Lists.{Ids, Entry}
-use Rattle.spec_changes.specs.Calls.{isCall}
+use Rattle.spec_changes.specs.Calls.{entryFor, isCall}
 use Rattle.answers.specs.declared.answer.Answer.{Answer}
 use Rattle.answers.specs.Answers.{is}
 use Rattle.spec_calls.specs.CallRules.{idsIn}
+use Rattle.spec_calls.specs.Made.{newFor}
 
 pub record Fed : Type 0 where
   pub message : List ℕ
@@ -44,10 +45,26 @@ fourOf s = readFour s (readOf s)
 abbrev pub lowestSlot : List Entry → ℕ → ℕ
 lowestSlot l total = firstNot (λ k. has (λ e. eqb k (e .slot)) l) total 0
 
--- 20 adds an entry with the message's four, 22 takes it out; every other answer changes nothing
+-- the entry that an open adds: the message's four or, for one without names, the ID and name that the node makes from the
+-- entries there, with the request's two numbers (02, A6)
+abbrev pub messageOpened : ℕ → List Entry → List ℕ → Message → List Entry
+messageOpened total l s (Open q) = entryFor (lowestSlot l total) (newFor l s q) ∷ l
+messageOpened total l s (Close q) = l
+messageOpened total l s (Add c) = l
+messageOpened total l s (Drop c) = l
+
+abbrev pub readOpened : ℕ → List Entry → List ℕ → Reading → List Entry
+readOpened total l s (Refused fault offset headers) = l
+readOpened total l s (Unfit fault sender headers) = l
+readOpened total l s (Read message headers) = messageOpened total l s message
+
+unfoldable pub withOpened : ℕ → List Entry → List ℕ → List Entry
+withOpened total l s = readOpened total l s (readOf s)
+
+-- 20 adds an entry, 22 takes the one with the message's four out; every other answer changes nothing
 abbrev pub feed : ℕ → Fed → List Entry → List Entry
 feed total e l =
-    cond (is 20 (e .answer)) (record { slot = lowestSlot l total; ids = fourOf (e .message) } ∷ l)
+    cond (is 20 (e .answer)) (withOpened total l (e .message))
     (cond (is 22 (e .answer)) (without (isCall (fourOf (e .message))) l)
     l)
 

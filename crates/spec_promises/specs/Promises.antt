@@ -12,13 +12,13 @@ use Rattle.lists.specs.Count.{countIf}
 use Rattle.messages.specs.declared.message.CallRequest.{CallRequest}
 use Rattle.messages.specs.declared.message.Message.the-variants.{Open}
 use Rattle.table.specs.Table.{Table}
-use Rattle.table.specs.Lists.{Terms, Ids, Entry, entries}
+use Rattle.table.specs.Lists.{Terms, Entry, entries}
 use Rattle.table.specs.Share.{isListed, guaranteeOf, limitOf, callsOf, S}
 use Rattle.table.specs.Rules.{rulesHold}
 use Rattle.spec_changes.specs.Shape.{Shape}
 use Rattle.answers.specs.Answers.{answerNumber}
 use Rattle.spec_calls.specs.Form.{sound, formOf}
-use Rattle.spec_calls.specs.CallRules.{idsIn, isOpen, shortInUse, longInUse}
+use Rattle.spec_calls.specs.CallRules.{nameless, isRetry, shortTaken, longTaken}
 use Rattle.spec_calls.specs.Handling.{answerFrom2, handled}
 use Rattle.spec_promises.specs.Ledger.{Fed, ledger, answered}
 
@@ -50,11 +50,13 @@ dueAnswer total r l sender =
 
 -- why a setup of no fault is refused, by what the ledger has (01, Every answer): each refusal has its cause, and there
 -- is no other
-pub record Cause (total : ℕ) (r : List Terms) (l : List Entry) (c : Ids) (number : ℕ) : Type 0 where
-  pub short : number ≡ 30 → (shortInUse l c ≡ true) × (longInUse l c ≡ false)
-  pub long : number ≡ 31 → (longInUse l c ≡ true) × (isOpen l c ≡ false)
-  pub share : number ≡ 34 → (callsOf l (c .sender) ≡ limitOf r (c .sender)) ⊎ ((guaranteeOf r (c .sender) ≤ callsOf l (c .sender)) × (S r l ≡ total))
+pub record Cause (total : ℕ) (r : List Terms) (l : List Entry) (s : List ℕ) (q : CallRequest) (number : ℕ) : Type 0 where
+  pub short : number ≡ 30 → (shortTaken l s q ≡ true) × (longTaken l s q ≡ false)
+  pub long : number ≡ 31 → (longTaken l s q ≡ true) × (isRetry l s q ≡ false)
+  pub share : number ≡ 34 → (callsOf l (q .sender) ≡ limitOf r (q .sender)) ⊎ ((guaranteeOf r (q .sender) ≤ callsOf l (q .sender)) × (S r l ≡ total))
   pub only : isIn number (20 ∷ 21 ∷ 30 ∷ 31 ∷ 34 ∷ []) ≡ true
+  -- 02, A6: one without names is answered neither 30 nor 31
+  pub unnamed : nameless q ≡ true → isIn number (20 ∷ 21 ∷ 34 ∷ []) ≡ true
 
 -- what holds of the answer to one input, and of the ledger after it
 pub record Promised (total : ℕ) (r : List Terms) (start : List Entry) (t : Table) (h : List Fed) (x : Input) : Type 0 where
@@ -68,18 +70,19 @@ pub record Promised (total : ℕ) (r : List Terms) (start : List Entry) (t : Tab
   -- no customer has more calls in the ledger than its limit
   pub limited : (sender : ℕ) → isListed r sender ≡ true → callsOf (ledger total start (fed t x ∷ h)) sender ≤ limitOf r sender
   -- a setup of no fault, judged by the ledger before it, whose call is not open and whose IDs its pair does not use, is
-  -- answered what its customer is due; bytes and buffer length alone tell whether it has a fault
+  -- answered what its customer is due; bytes and buffer length alone tell whether it has a fault. Without names, its call
+  -- is the one made for its two numbers, and neither ID counts as in use (02, A6)
   pub due : (q : CallRequest) → formOf r (fed t x .message) (fed t x .room) ≡ sound (Open q)
-      → isOpen (ledger total start h) (idsIn (x .message) q) ≡ false
-      → longInUse (ledger total start h) (idsIn (x .message) q) ≡ false
-      → shortInUse (ledger total start h) (idsIn (x .message) q) ≡ false
+      → isRetry (ledger total start h) (x .message) q ≡ false
+      → longTaken (ledger total start h) (x .message) q ≡ false
+      → shortTaken (ledger total start h) (x .message) q ≡ false
       → answerNumber (fed t x .answer) ≡ dueAnswer total r (ledger total start h) (q .sender)
   -- a setup of no fault whose call is open in the ledger is a retry and is answered 21: nothing is opened a second time
   pub retried : (q : CallRequest) → formOf r (fed t x .message) (fed t x .room) ≡ sound (Open q)
-      → isOpen (ledger total start h) (idsIn (x .message) q) ≡ true → answerNumber (fed t x .answer) ≡ 21
+      → isRetry (ledger total start h) (x .message) q ≡ true → answerNumber (fed t x .answer) ≡ 21
   -- every setup of no fault that is refused has its cause in the ledger
   pub caused : (q : CallRequest) → formOf r (fed t x .message) (fed t x .room) ≡ sound (Open q)
-      → Cause total r (ledger total start h) (idsIn (x .message) q) (answerNumber (fed t x .answer))
+      → Cause total r (ledger total start h) (x .message) q (answerNumber (fed t x .answer))
 
 -- a table that keeps the rules, and whose open calls are a ledger's entries, in any order
 pub record Agrees (t : Table) (l : List Entry) : Type 0 where

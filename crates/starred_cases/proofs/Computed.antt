@@ -14,7 +14,7 @@ use Rattle.objects.specs.Walk.{seen, objectsOf, walkFrom, walkOf}
 use Rattle.messages.specs.Header.{badMessageLength, checksumHolds, typeOf, headerOf}
 use Rattle.messages.specs.Counts.{notifyComplete, pathComplete}
 use Rattle.messages.specs.Fields.{connectionIn, requestAt}
-use Rattle.messages.specs.Read.{isCallRequest, badIdentity, notifyOf, pathOf, readOf}
+use Rattle.messages.specs.Read.{isCallRequest, isNameless, badIdentity, notifyOf, pathOf, readOf}
 use Rattle.reply_objects.specs.Header.{checksumOf, withChecksum}
 use Rattle.replies.specs.Messages.{pathErrBeforeChecksum, pathErrBytes, notifyBeforeChecksum, notifyBytes}
 use Rattle.lists.specs.Below.{elementIf, listIf, below, everyBelow, firstBelow, firstNot}
@@ -60,35 +60,35 @@ padded-bytes = refl
 -- ---- what they come to
 
 cases-computed : outcomes unchecked emptyTable cases ≡ map expected cases
-unfolding cases withSet withClear isUsed withUsed withFree firstNot atFront isIn zerosAt unpadded passedOver refusedClass hasForm attributeFormed formed misformed badLength itemAt seen objectsOf walkFrom walkOf badMessageLength checksumHolds typeOf headerOf notifyComplete pathComplete connectionIn requestAt isCallRequest badIdentity notifyOf pathOf readOf elementIf listIf below everyBelow firstBelow noCall noCustomer emptyTable S badShare sameBytes sameShort sameLong sameLsp guaranteeIn limitIn spareIn badForm recordsAnswer rosterAnswer customersFrom freshTable tableFor opened closed addedUnder removedUnder added removed listedOr11 formOf shareUsedUp openAnswer closeAnswer addAnswer dropAnswer tableAfter replyAfter
+unfolding cases withSet withClear isUsed withUsed withFree firstNot atFront isIn zerosAt unpadded passedOver refusedClass hasForm attributeFormed formed misformed badLength itemAt seen objectsOf walkFrom walkOf badMessageLength checksumHolds typeOf headerOf notifyComplete pathComplete connectionIn requestAt isCallRequest isNameless badIdentity notifyOf pathOf readOf elementIf listIf below everyBelow firstBelow noCall noCustomer emptyTable S badShare sameBytes sameShort sameLong sameLsp guaranteeIn limitIn spareIn badForm recordsAnswer rosterAnswer customersFrom freshTable tableFor opened closed addedUnder removedUnder added removed listedOr11 formOf shareUsedUp openAnswer closeAnswer addAnswer dropAnswer tableAfter replyAfter
 cases-computed = refl
 
 pub cases-hold : CasesHold
 cases-hold = outcomes-same cases emptyTable empty-sound cases-bytes ∙ cases-computed
 
 two-hundred-computed : outcomes unchecked emptyTable twoHundred ≡ map expected twoHundred
-unfolding twoHundred withSet withClear isUsed withUsed withFree firstNot atFront isIn zerosAt unpadded passedOver refusedClass hasForm attributeFormed formed misformed badLength itemAt seen objectsOf walkFrom walkOf badMessageLength checksumHolds typeOf headerOf notifyComplete pathComplete connectionIn requestAt isCallRequest badIdentity notifyOf pathOf readOf elementIf listIf below everyBelow firstBelow noCall noCustomer emptyTable S badShare sameBytes sameShort sameLong sameLsp guaranteeIn limitIn spareIn badForm recordsAnswer rosterAnswer customersFrom freshTable tableFor opened closed addedUnder removedUnder added removed listedOr11 formOf shareUsedUp openAnswer closeAnswer addAnswer dropAnswer tableAfter replyAfter
+unfolding twoHundred withSet withClear isUsed withUsed withFree firstNot atFront isIn zerosAt unpadded passedOver refusedClass hasForm attributeFormed formed misformed badLength itemAt seen objectsOf walkFrom walkOf badMessageLength checksumHolds typeOf headerOf notifyComplete pathComplete connectionIn requestAt isCallRequest isNameless badIdentity notifyOf pathOf readOf elementIf listIf below everyBelow firstBelow noCall noCustomer emptyTable S badShare sameBytes sameShort sameLong sameLsp guaranteeIn limitIn spareIn badForm recordsAnswer rosterAnswer customersFrom freshTable tableFor opened closed addedUnder removedUnder added removed listedOr11 formOf shareUsedUp openAnswer closeAnswer addAnswer dropAnswer tableAfter replyAfter
 two-hundred-computed = refl
 
 pub two-hundred-hold : TwoHundredHold
 two-hundred-hold = outcomes-same twoHundred emptyTable empty-sound two-hundred-bytes ∙ two-hundred-computed
 
 slots-computed : slotsAfter unchecked ≡ slotsDue
-unfolding slotMessages withSet withClear isUsed withUsed withFree firstNot atFront isIn zerosAt unpadded passedOver refusedClass hasForm attributeFormed formed misformed badLength itemAt seen objectsOf walkFrom walkOf badMessageLength checksumHolds typeOf headerOf notifyComplete pathComplete connectionIn requestAt isCallRequest badIdentity notifyOf pathOf readOf elementIf listIf below everyBelow firstBelow noCall noCustomer emptyTable S badShare sameBytes sameShort sameLong sameLsp guaranteeIn limitIn spareIn badForm recordsAnswer rosterAnswer customersFrom freshTable tableFor opened closed addedUnder removedUnder added removed listedOr11 formOf shareUsedUp openAnswer closeAnswer addAnswer dropAnswer tableAfter replyAfter
+unfolding slotMessages withSet withClear isUsed withUsed withFree firstNot atFront isIn zerosAt unpadded passedOver refusedClass hasForm attributeFormed formed misformed badLength itemAt seen objectsOf walkFrom walkOf badMessageLength checksumHolds typeOf headerOf notifyComplete pathComplete connectionIn requestAt isCallRequest isNameless badIdentity notifyOf pathOf readOf elementIf listIf below everyBelow firstBelow noCall noCustomer emptyTable S badShare sameBytes sameShort sameLong sameLsp guaranteeIn limitIn spareIn badForm recordsAnswer rosterAnswer customersFrom freshTable tableFor opened closed addedUnder removedUnder added removed listedOr11 formOf shareUsedUp openAnswer closeAnswer addAnswer dropAnswer tableAfter replyAfter
 slots-computed = refl
 
 pub lowest-taken : LowestTaken
 lowest-taken = ap slotsIn (through-same buffer slotMessages _ (roster-sound slotRoster refl) slot-bytes .0) ∙ slots-computed
 
 replies-computed : map (replied unchecked) replyCases ≡ map (λ c. c .expected) replyCases
-unfolding replyCases withSet withClear isUsed withUsed withFree firstNot atFront isIn zerosAt unpadded passedOver refusedClass hasForm attributeFormed formed misformed badLength itemAt seen objectsOf walkFrom walkOf badMessageLength checksumHolds typeOf headerOf notifyComplete pathComplete connectionIn requestAt isCallRequest badIdentity notifyOf pathOf readOf elementIf listIf below everyBelow firstBelow noCall noCustomer emptyTable S badShare sameBytes sameShort sameLong sameLsp guaranteeIn limitIn spareIn badForm recordsAnswer rosterAnswer customersFrom freshTable tableFor opened closed addedUnder removedUnder added removed listedOr11 formOf shareUsedUp openAnswer closeAnswer addAnswer dropAnswer tableAfter replyAfter pathErrBytes pathErrBeforeChecksum notifyBytes notifyBeforeChecksum withChecksum checksumOf wordsSum allRound firstWords
+unfolding replyCases withSet withClear isUsed withUsed withFree firstNot atFront isIn zerosAt unpadded passedOver refusedClass hasForm attributeFormed formed misformed badLength itemAt seen objectsOf walkFrom walkOf badMessageLength checksumHolds typeOf headerOf notifyComplete pathComplete connectionIn requestAt isCallRequest isNameless badIdentity notifyOf pathOf readOf elementIf listIf below everyBelow firstBelow noCall noCustomer emptyTable S badShare sameBytes sameShort sameLong sameLsp guaranteeIn limitIn spareIn badForm recordsAnswer rosterAnswer customersFrom freshTable tableFor opened closed addedUnder removedUnder added removed listedOr11 formOf shareUsedUp openAnswer closeAnswer addAnswer dropAnswer tableAfter replyAfter pathErrBytes pathErrBeforeChecksum notifyBytes notifyBeforeChecksum withChecksum checksumOf wordsSum allRound firstWords
 replies-computed = refl
 
 pub replies-hold : RepliesHold
 replies-hold = replies-same replyCases reply-bytes ∙ replies-computed
 
 padded-computed : paddedResults unchecked ≡ map (λ c. c .result) paddedCases
-unfolding paddedCases withSet withClear isUsed withUsed withFree firstNot atFront isIn zerosAt unpadded passedOver refusedClass hasForm attributeFormed formed misformed badLength itemAt seen objectsOf walkFrom walkOf badMessageLength checksumHolds typeOf headerOf notifyComplete pathComplete connectionIn requestAt isCallRequest badIdentity notifyOf pathOf readOf elementIf listIf below everyBelow firstBelow noCall noCustomer emptyTable S badShare sameBytes sameShort sameLong sameLsp guaranteeIn limitIn spareIn badForm recordsAnswer rosterAnswer customersFrom freshTable tableFor opened closed addedUnder removedUnder added removed listedOr11 formOf shareUsedUp openAnswer closeAnswer addAnswer dropAnswer tableAfter replyAfter pathErrBytes pathErrBeforeChecksum notifyBytes notifyBeforeChecksum withChecksum checksumOf wordsSum allRound firstWords
+unfolding paddedCases withSet withClear isUsed withUsed withFree firstNot atFront isIn zerosAt unpadded passedOver refusedClass hasForm attributeFormed formed misformed badLength itemAt seen objectsOf walkFrom walkOf badMessageLength checksumHolds typeOf headerOf notifyComplete pathComplete connectionIn requestAt isCallRequest isNameless badIdentity notifyOf pathOf readOf elementIf listIf below everyBelow firstBelow noCall noCustomer emptyTable S badShare sameBytes sameShort sameLong sameLsp guaranteeIn limitIn spareIn badForm recordsAnswer rosterAnswer customersFrom freshTable tableFor opened closed addedUnder removedUnder added removed listedOr11 formOf shareUsedUp openAnswer closeAnswer addAnswer dropAnswer tableAfter replyAfter pathErrBytes pathErrBeforeChecksum notifyBytes notifyBeforeChecksum withChecksum checksumOf wordsSum allRound firstWords
 padded-computed = refl
 
 pub padded-hold : PaddedHold

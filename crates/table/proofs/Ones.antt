@@ -17,7 +17,7 @@ use Rattle.lists.proofs.Count.{count-all}
 use Rattle.lists.proofs.Below.{count-none, count-below, count-element, below-rest}
 use Rattle.table.specs.Total.{slots}
 use Rattle.table.specs.Word.{bits, isUsed, onesOf, FourWords}
-use Rattle.table.specs.Lists.{Entry, openAt, entries, idsOf, callAt}
+use Rattle.table.specs.Lists.{Entry, openAt, entries, entryOf, callAt}
 use Rattle.table.specs.Table.{Table}
 use Rattle.table.proofs.Slots.{slot-bit}
 
@@ -35,7 +35,7 @@ module _ (t : Table) where
 
   one-slot : (i : ℕ) → countIf (λ x. true) (openAt t i) ≡ bit (isUsed (t .occupied) i)
   one-slot i =
-      count-element {A = Entry} (λ x. true) (isUsed (t .occupied) i) (record { slot = i; ids = idsOf (callAt t i) }) ∙ ap bit (and-true (isUsed (t .occupied) i))
+      count-element {A = Entry} (λ x. true) (isUsed (t .occupied) i) (entryOf i (callAt t i)) ∙ ap bit (and-true (isUsed (t .occupied) i))
 
   -- the first n slots of word k
   low-ones : (k n : ℕ) → n ≤ 64 → calls (64 * k + n) ≡ calls (64 * k) + ones (getD (t .occupied) k 0 % 2 ^ n)

@@ -12,8 +12,8 @@ use Rattle.lists.proofs.Below.{element-not, every-at}
 use Rattle.table.specs.Table.{Table}
 use Rattle.table.specs.Total.{slots, totalFor, totalOf}
 use Rattle.table.specs.Word.{bits, isUsed}
-use Rattle.table.specs.Lists.{callAt, idsOf, openAt}
-use Rattle.table.specs.Rules.{holds, rosterAcceptable, slotsWithinTotal, sendersListed, withinLimits, shareWithinTotal, shortIdsOnce, longIdsOnce, namesAndIds, connectionsOnce, freeHoldsZeros, rulesHold}
+use Rattle.table.specs.Lists.{callAt, entryOf, openAt}
+use Rattle.table.specs.Rules.{holds, rosterAcceptable, slotsWithinTotal, sendersListed, withinLimits, shareWithinTotal, shortIdsOnce, longIdsOnce, requestsOnce, namesAndIds, connectionsOnce, freeHoldsZeros, rulesHold}
 
 pub total-most : (form : ℕ) → totalFor form ≤ slots
 total-most form = by (eqb form 2)
@@ -29,7 +29,8 @@ rules-within t h =
     let zeros = both _ (holds freeHoldsZeros t) h in
     let once = both _ (holds connectionsOnce t) (zeros .0) in
     let names = both _ (holds namesAndIds t) (once .0) in
-    let longs = both _ (holds longIdsOnce t) (names .0) in
+    let requests = both _ (holds requestsOnce t) (names .0) in
+    let longs = both _ (holds longIdsOnce t) (requests .0) in
     let shorts = both _ (holds shortIdsOnce t) (longs .0) in
     let room = both _ (holds shareWithinTotal t) (shorts .0) in
     let limits = both _ (holds withinLimits t) (room .0) in
@@ -46,7 +47,7 @@ module _ (t : Table) (h : holds slotsWithinTotal t ≡ true) where
 
   -- a slot that has a bit and no call is not used
   pub none-outside : (i : ℕ) → slots ≤ i → i < bits → openAt t i ≡ []
-  none-outside i l m = element-not (isUsed (t .occupied) i) (record { slot = i; ids = idsOf (callAt t i) }) (by (isUsed (t .occupied) i) refl)
+  none-outside i l m = element-not (isUsed (t .occupied) i) (entryOf i (callAt t i)) (by (isUsed (t .occupied) i) refl)
     where
       by : (b : Bool) → isUsed (t .occupied) i ≡ b → b ≡ false
       by true e = let z : ⊥ = omega (arith, used-within i m e, total-most (t .form)) in absurd z

@@ -6,6 +6,7 @@ use mathlib.Core.Bool.{Bool}
 use lib.Dec.{eqb, ltb}
 use lib.ListN.{take, getD}
 use Rattle.lists.specs.Below.{elementIf, listIf, below}
+use Rattle.objects.specs.declared.fields.MessageId.{MessageId}
 use Rattle.table.specs.Table.{Place, Call, Customer, Table}
 use Rattle.table.specs.Total.{slots}
 use Rattle.table.specs.Word.{isUsed}
@@ -39,9 +40,13 @@ pub record Ids : Type 0 where
   pub short : ℕ
   pub long : List ℕ
 
+-- a call in its slot: its four, whether the node made its IDs, and the epoch and identifier of the request for which it
+-- made them (02, A6)
 pub record Entry : Type 0 where
   pub slot : ℕ
   pub ids : Ids
+  pub made : Bool
+  pub request : MessageId
 
 abbrev pub callAt : Table → ℕ → Call
 callAt t i = getD (t .calls) i pastCall
@@ -50,8 +55,16 @@ callAt t i = getD (t .calls) i pastCall
 abbrev pub idsOf : Call → Ids
 idsOf c = record { endpoint = c .endpoint; sender = c .sender; short = c .id; long = take (c .size) (c .name) }
 
+-- 02, A6: the mark of a call whose IDs the node made
+abbrev pub isMade : Call → Bool
+isMade c = eqb (c .made) 1
+
+-- the entry of a call that stands in a slot: every entry of a call is made by this
+abbrev pub entryOf : ℕ → Call → Entry
+entryOf i c = record { slot = i; ids = idsOf c; made = isMade c; request = record { epoch = c .epoch; identifier = c .identifier } }
+
 abbrev pub openAt : Table → ℕ → List Entry
-openAt t i = elementIf (isUsed (t .occupied) i) (record { slot = i; ids = idsOf (callAt t i) })
+openAt t i = elementIf (isUsed (t .occupied) i) (entryOf i (callAt t i))
 
 abbrev pub entries : Table → List Entry
 entries t = below (openAt t) slots

@@ -15,7 +15,7 @@ use Rattle.lists.specs.Below.{everyBelow}
 use Rattle.table.specs.Table.{Place, Call, Customer, Table}
 use Rattle.table.specs.Total.{slots, totalOf}
 use Rattle.table.specs.Word.{bits, isUsed}
-use Rattle.table.specs.Lists.{Terms, customerAt, roster, Ids, Entry, callAt, entries, Lsp, Held, Four, callFour, customerFour, placeAt, isTaken, held}
+use Rattle.table.specs.Lists.{Terms, customerAt, roster, Ids, Entry, callAt, isMade, entries, Lsp, Held, Four, callFour, customerFour, placeAt, isTaken, held}
 use Rattle.table.specs.Share.{isListed, callsOf, S}
 
 -- ---- an acceptable roster (01, The roster: 44, 45, 46)
@@ -66,6 +66,15 @@ sameShort c d = samePair c d && eqb (c .short) (d .short)
 unfoldable pub sameLong : Ids → Ids → Bool
 sameLong c d = samePair c d && sameBytes (c .long) (d .long)
 
+-- 02, A6: two calls that the node made for one pair have both numbers of their requests in common
+unfoldable pub sameRequest : Entry → Entry → Bool
+sameRequest e f =
+    e .made
+    && f .made
+    && samePair (e .ids) (f .ids)
+    && eqb (e .request .epoch) (f .request .epoch)
+    && eqb (e .request .identifier) (f .request .identifier)
+
 -- a name of 1 to 32 bytes that ends in a byte that is not zero (02, A1), and a Call ID of sixteen bits that is not 0
 unfoldable pub validIds : Call → Bool
 validIds c =
@@ -110,14 +119,18 @@ fourClear f = everyBelow (λ j. placeClear (placeAt f j)) 4
 abbrev pub fourValid : Four → Bool
 fourValid f = everyBelow (λ j. placeValid (placeAt f j)) 4
 
--- what requests A6 and A7 will use: the mark of a call that the node made, its request's epoch and identifier, the last
--- refresh
+-- 02, A6: a call that the node made has its request's epoch, of 24 bits, and identifier; any other has zeros there, and a
+-- mark other than 0 and 1 is neither. The last refresh is for request A7.
+abbrev pub requestTidy : Call → Bool
+requestTidy c = eqb (c .refreshed) 0 && cond (isMade c) (ltb (c .epoch) 0x1000000) (eqb (c .made) 0 && eqb (c .epoch) 0 && eqb (c .identifier) 0)
+
+-- a call's places, those taken excepted; the bytes past its name; the request of a call that the node did not make
+unfoldable pub callFreeClear : Call → Bool
+callFreeClear c = requestTidy c && zerosAt (c .name) (c .size) (32 - c .size) && fourValid (callFour c)
+
+-- in a free slot: no mark, no request, no refresh
 abbrev pub unusedClear : Call → Bool
 unusedClear c = eqb (c .made) 0 && eqb (c .refreshed) 0 && eqb (c .epoch) 0 && eqb (c .identifier) 0
-
--- a call's places, those taken excepted; the bytes past its name; what is not in use yet
-unfoldable pub callFreeClear : Call → Bool
-callFreeClear c = unusedClear c && zerosAt (c .name) (c .size) (32 - c .size) && fourValid (callFour c)
 
 -- a free slot
 unfoldable pub callClear : Call → Bool
@@ -142,7 +155,7 @@ recordFreeClear t k = cond (ltb k (t .listed)) (customerFreeClear (customerAt t 
 -- ---- the rules by name
 
 pub data Rule : Type 0 where
-  rosterAcceptable slotsWithinTotal sendersListed withinLimits shareWithinTotal shortIdsOnce longIdsOnce namesAndIds connectionsOnce freeHoldsZeros : Rule
+  rosterAcceptable slotsWithinTotal sendersListed withinLimits shareWithinTotal shortIdsOnce longIdsOnce requestsOnce namesAndIds connectionsOnce freeHoldsZeros : Rule
 
 abbrev pub holds : Rule → Table → Bool
 holds rosterAcceptable t = rosterHolds t
@@ -153,6 +166,8 @@ holds withinLimits t = not (has (overLimit (entries t)) (roster t))
 holds shareWithinTotal t = leb (S (roster t) (entries t)) (totalOf t)
 holds shortIdsOnce t = noTwo (λ e f. sameShort (e .ids) (f .ids)) (entries t)
 holds longIdsOnce t = noTwo (λ e f. sameLong (e .ids) (f .ids)) (entries t)
+-- 02, A6: no two calls that the node made for a pair share both numbers
+holds requestsOnce t = noTwo sameRequest (entries t)
 holds namesAndIds t = everyBelow (λ i. not (isUsed (t .occupied) i) || validIds (callAt t i)) slots
 holds connectionsOnce t = noTwo sameConnection (held t)
 holds freeHoldsZeros t = everyBelow (slotFreeClear t) slots && everyBelow (recordFreeClear t) 8
@@ -167,6 +182,7 @@ rulesHold t =
     && holds shareWithinTotal t
     && holds shortIdsOnce t
     && holds longIdsOnce t
+    && holds requestsOnce t
     && holds namesAndIds t
     && holds connectionsOnce t
     && holds freeHoldsZeros t

@@ -10,8 +10,9 @@ pub record Place : Type 0 where
   pub extended : ℕ
   pub lsp : ℕ
 
--- a call, with its long Call ID in the first `size` of the name's 32 bytes. Whether the node made it, its last refresh and
--- the epoch and identifier of its request are for requests A6 and A7: a table rule holds them at zero until then.
+-- a call, with its long Call ID in the first `size` of the name's 32 bytes; the mark `made` is 1 where the node made its
+-- IDs, and then epoch and identifier are its request's (02, A6). Its last refresh is for request A7: a table rule holds
+-- it at zero until then.
 pub record Call : Type 0 where
   pub endpoint : ℕ
   pub sender : ℕ

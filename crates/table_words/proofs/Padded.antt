@@ -14,7 +14,7 @@ use Rattle.lists.proofs.Tests.{both}
 use Rattle.table.specs.Table.{Call}
 use Rattle.table.specs.Total.{slots}
 use Rattle.table.specs.Lists.{callAt, callFour}
-use Rattle.table.specs.Rules.{unusedClear, fourValid, callFreeClear}
+use Rattle.table.specs.Rules.{requestTidy, fourValid, callFreeClear}
 use Rattle.table.specs.Words.{callStart, tableOf}
 use Rattle.table.proofs.Cells.{call-at}
 use Rattle.table_words.proofs.NameBytes.{name-long, zeros-drop}
@@ -27,7 +27,7 @@ pub free-zeros : (c : Call) → callFreeClear c ≡ true → zerosAt (c .name) (
 unfolding callFreeClear
 free-zeros c h =
     let zeros = zerosAt (c .name) (c .size) (32 - c .size) in
-    both (unusedClear c) zeros (both (unusedClear c && zeros) (fourValid (callFour c)) h .0) .1
+    both (requestTidy c) zeros (both (requestTidy c && zeros) (fourValid (callFour c)) h .0) .1
 
 -- bytes with zeros behind them, 32 in all
 abbrev pub padded : List ℕ → List ℕ

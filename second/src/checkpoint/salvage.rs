@@ -49,12 +49,13 @@ fn without_duplicates<'a>(calls: &[&'a CallRecord], connections: &[ConnectionRec
 }
 
 impl Node {
-    /// Step 3 for a call: drops it if its slot is taken, its pair has its short ID, or a share rule would break.
-    /// Its long ID is its alone since step 2.
+    /// Step 3 for a call: drops it if its slot is taken, its pair has its short ID or, if it is made, its two numbers
+    /// (A6), or a share rule would break. Its long ID is its alone since step 2.
     fn keep_call(&mut self, record: &CallRecord) {
         let slot = usize::from(record.slot);
-        let (short, long) = (record.short_id(), record.long_id());
-        if !self.free.is_free(slot) || self.calls.contains_key(&short) {
+        let ((pair, id), made_by) = (record.short_id(), record.made_by());
+        let request_twice = made_by.is_some_and(|request| self.made.contains_key(&(pair, request)));
+        if !self.free.is_free(slot) || self.calls.contains_key(&(pair, id)) || request_twice {
             return;
         }
         let customer = self.roster.find(record.call.sender);
@@ -67,12 +68,12 @@ impl Node {
         }
         let open = OpenCall {
             slot,
-            name: long.1,
+            name: record.long_id().1,
+            made_by,
             places: Places::default(),
         };
         self.free.take(slot);
-        self.calls.insert(short, open);
-        self.long_ids.insert(long, short.1);
+        self.enter(pair, id, open);
     }
 
     /// Step 3 for a connection: drops it if it stands already, under whatever Call ID, its sender is not listed, its

@@ -4,6 +4,7 @@ use std::collections::BTreeMap;
 
 use super::layout::{CallRecord, ConnectionRecord, Head, FORM};
 use crate::node::{Holder, Node};
+use crate::rules::put_request;
 use crate::table::{Call, Table};
 
 /// Writes a checkpoint to the front of the buffer: 0 and its length, or 1 or 73, length 0 and the buffer as it was.
@@ -39,7 +40,7 @@ fn checkpoint_of(node: &Node) -> Vec<u8> {
 fn calls_in_order(node: &Node) -> BTreeMap<usize, CallRecord> {
     let mut records = BTreeMap::new();
     for (&(pair, id), open) in &node.calls {
-        let call = Call {
+        let mut call = Call {
             endpoint: pair.endpoint,
             sender: pair.sender,
             id: id.into(),
@@ -47,6 +48,7 @@ fn calls_in_order(node: &Node) -> BTreeMap<usize, CallRecord> {
             name: open.name.bytes,
             ..Call::FREE
         };
+        put_request(&mut call, open.made_by);
         let slot = open.slot as u8;
         records.insert(open.slot, CallRecord { slot, call });
     }

@@ -54,7 +54,12 @@ pub fn error_spec(code: u8, value: u16) -> Vec<u8> {
 }
 
 pub fn message_id() -> Vec<u8> {
-    object(23, 1, &hex("00000009 0000002a"))
+    numbered(9, 42)
+}
+
+/// A MESSAGE_ID without flags. An epoch has 24 bits.
+pub fn numbered(epoch: u32, identifier: u32) -> Vec<u8> {
+    object(23, 1, &[epoch.to_be_bytes(), identifier.to_be_bytes()].concat())
 }
 
 pub fn admin_status(bits: u32) -> Vec<u8> {
@@ -95,6 +100,18 @@ pub fn open(sender: u32, id: u16, name: &[u8]) -> Vec<u8> {
 
 pub fn close(sender: u32, id: u16, name: &[u8]) -> Vec<u8> {
     message(NOTIFY, &six(sender, id, name, CLOSE))
+}
+
+/// An open without names (A6): Name Length 0 and Call ID 0.
+pub fn nameless(sender: u32, epoch: u32, identifier: u32) -> Vec<u8> {
+    nameless_at(END, sender, epoch, identifier)
+}
+
+pub fn nameless_at(endpoint: u32, sender: u32, epoch: u32, identifier: u32) -> Vec<u8> {
+    let mut objects = six(sender, 0, b"", SETUP);
+    objects[0] = session(endpoint, 0, 1, X);
+    objects[3] = numbered(epoch, identifier);
+    message(NOTIFY, &objects)
 }
 
 /// A connection told from others by its LSP ID.

@@ -136,7 +136,7 @@ fn a_buffer_too_short() {
 #[test]
 fn a_table_that_breaks_a_rule_is_not_written() {
     let mut table = small();
-    table.calls[0].made = 1;
+    table.calls[0].refreshed = 1;
     for length in [0, 3, 95, 200] {
         let mut buffer = vec![OLD; length];
         assert_eq!(write_checkpoint(&table, &mut buffer), (1, 0));

@@ -1,4 +1,5 @@
-//! Tests from document 01's own examples and sentences and from those of requests A1, A11 and A13. Expected values come from there.
+//! Tests from document 01's own examples and sentences and from those of requests A1, A6, A11 and A13. Expected values
+//! come from there.
 
 mod build;
 mod calls;
@@ -6,6 +7,8 @@ mod checkpoint_bytes;
 mod checkpoints;
 mod connections;
 mod form;
+mod nameless;
+mod nameless_rules;
 mod objects;
 mod replies;
 mod rosters;

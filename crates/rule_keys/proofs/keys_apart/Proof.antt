@@ -26,7 +26,7 @@ Inv-loop t heads₀ links₀ keys₀ noted₀ n i₀ heads links keys noted i =
     (i ≤ n)
     × Listed heads links keys noted
     × (take (noted .count) keys ≡ below (callKeysAt (tableOf t)) i)
-    × (noted .count ≤ 6 * i)
+    × (noted .count ≤ 7 * i)
 
 abbrev μ-loop : tie.MeasureT-loop
 μ-loop t heads₀ links₀ keys₀ noted₀ n i₀ heads links keys noted i = n - i
@@ -36,7 +36,7 @@ Inv-loop2 t heads₀ links₀ keys₀ noted₀ n i listed k₀ heads links keys 
     (k ≤ 8)
     × Listed heads links keys noted
     × (take (noted .count) keys ≡ below (callKeysAt (tableOf t)) slots ++ below (λ j. listIf (ltb j listed) (heldKeys (heldIn (customerFour (customerAt (tableOf t) j))))) k)
-    × (noted .count ≤ 1200 + 4 * k)
+    × (noted .count ≤ 1400 + 4 * k)
 
 abbrev μ-loop2 : tie.MeasureT-loop2
 μ-loop2 t heads₀ links₀ keys₀ noted₀ n i listed k₀ heads links keys noted k = 8 - k

@@ -24,27 +24,38 @@ long-key-requires c κs = search needs
 note-key-requires-2 : tie.Need-note-key-requires-2
 note-key-requires-2 c κs = search needs
 
+note-request-requires : tie.Need-note-request-requires
+note-request-requires c κs =
+    let two = c .before .before .before in
+    let one = two .before .before .before .before .before in
+    let z = one .before .before .before .before .before .before in
+    (search needs, omega (arith, two .note-key2 .ensures .2, one .note-key .ensures .2, z .pre .1))
+
 call-four-requires : tie.Need-call-four-requires
-call-four-requires c κs = search needs
+call-four-requires c κs =
+    let two = c .before .before .before .before .before .before .before in
+    two .before .before .before .before .before .before .before .before .before .before .before .pre .2
 
 note-four-requires : tie.Need-note-four-requires
 note-four-requires c κs =
-    let two = c .before .before .before .before in
+    let three = c .before .before .before .before in
+    let two = three .before .before .before .before in
     let one = two .before .before .before .before .before in
     let z = one .before .before .before .before .before .before in
-    (search needs, omega (arith, two .note-key2 .ensures .2, one .note-key .ensures .2, z .pre .1), search needs)
+    (search needs, omega (arith, three .note-request .ensures .2, two .note-key2 .ensures .2, one .note-key .ensures .2, z .pre .1), search needs)
 
 returns : tie.Need-returns
 returns c =
     let f = c .before in
-    let two = f .before .before .before .before in
+    let three = f .before .before .before .before in
+    let two = three .before .before .before .before in
     let one = two .before .before .before .before .before in
     let h = one .before .before .before .before .before in
     let z = h .before in
     let e = c .note-four .ensures in (
       e .0,
-      call-keys (callAt (tableOf (z .args .t .now)) (z .args .i)) (h .call-head .result) (fourAtWord (z .args .t .now) (f .call-four .result)) (h .call-head .ensures) (f .call-four .ensures .0) _ _ (take (z .args .at .count) (z .args .keys .now)) _ _ _ (one .before .short-key .ensures) (two .before .long-key .ensures) (one .note-key .ensures .1) (two .note-key2 .ensures .1) (e .1),
-      omega (arith, two .note-key2 .ensures .2, one .note-key .ensures .2, e .2),
+      call-keys (callAt (tableOf (z .args .t .now)) (z .args .i)) (h .call-head .result) (fourAtWord (z .args .t .now) (f .call-four .result)) (h .call-head .ensures) (f .call-four .ensures .0) _ _ (take (z .args .at .count) (z .args .keys .now)) _ _ _ _ (one .before .short-key .ensures) (two .before .long-key .ensures) (one .note-key .ensures .1) (two .note-key2 .ensures .1) (three .note-request .ensures .1) (e .1),
+      omega (arith, three .note-request .ensures .2, two .note-key2 .ensures .2, one .note-key .ensures .2, e .2),
     )
 
 pub note-call-spec : {M : Type 1} → statement M
@@ -56,6 +67,7 @@ note-call-spec =
     note-key-requires
     long-key-requires
     note-key-requires-2
+    note-request-requires
     call-four-requires
     note-four-requires
     returns)

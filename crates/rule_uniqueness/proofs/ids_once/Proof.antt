@@ -51,7 +51,7 @@ returns c =
     let n = u .used-below .result in
     let e : c .before .loop .i ≡ n = omega arith in
     let rest = pairs-rest (apartAt t) n slots (u .used-below .ensures .0) (λ i j l m. rw (u .used-below .ensures .1 i l m, and-false _)) in
-    rw e at (c .before .loop .inv .1) ∙ sym rest ∙ slots-apart _ _ _ _ slots
+    rw e at (c .before .loop .inv .1) ∙ sym rest ∙ slots-apart _ _ slots _ _ _
 
 pub ids-once-spec : {M : Type 1} → statement M
 ids-once-spec =

@@ -32,6 +32,9 @@ ends-at-requires c κs =
     let size = some-size _ (z .if1 .left) in
     (a .pre .0, size .0, size .1, a .pre .1)
 
+request-tidy-requires : tie.Need-request-tidy-requires
+request-tidy-requires c κs = search needs
+
 call-four-requires : tie.Need-call-four-requires
 call-four-requires c κs = search needs
 
@@ -40,10 +43,11 @@ four-valid-requires c κs = search needs
 
 returns-2 : tie.Need-returns-2
 returns-2 c =
-    let n = c .before .before .before .before .before .before in
+    let r = c .before .before in
+    let n = r .before in
     let v = n .before .before in
     let h = v .before .before .before .before in
-    tidy-by-head _ _ (h .call-head .ensures) _ _ _ (v .before .if1 .left) (v .is-call-id .ensures) (n .ends-at .ensures)
+    tidy-by-head _ _ (h .call-head .ensures) _ _ _ _ (v .before .if1 .left) (v .is-call-id .ensures) (n .ends-at .ensures) (r .request-tidy .ensures)
     (c .four-valid .ensures ∙ alike-valid _ _ (c .before .call-four .ensures .0))
 
 pub call-tidy-spec : {M : Type 1} → statement M
@@ -55,6 +59,7 @@ call-tidy-spec =
     is-call-id-requires
     cast-ends-at
     ends-at-requires
+    request-tidy-requires
     call-four-requires
     four-valid-requires
     returns-2)

@@ -18,7 +18,7 @@ use Rattle.checkpoint_salvage.proofs.placing.stands.Statement.{statemen
 use Rattle.checkpoint_salvage.proofs.placing.stands.Tie as tie
 
 -- the law at the place where the function begins
-law : (z : tie.Start) → standsBeside (tableOf (z .args .t .now)) (callRecord (z .args .s .now) (z .args .i) .call)
+law : (z : tie.Start) → standsBeside (tableOf (z .args .t .now)) (callRecord (z .args .s .now) (z .args .i))
     ≡ rulesHold (placed (tableOf (z .args .t .now)) (callRecord (z .args .s .now) (z .args .i)))
 law z =
     let w = z .args .t .now in
@@ -57,13 +57,13 @@ returns-3 c =
     let q = c .before .before .before .before .before in
     let z = q .before .before .before .before in
     let s = z .args .s .now in
-    let r = callRecord s (z .args .i) .call in
+    let r = callRecord s (z .args .i) in
     let e = q .record-request .ensures .0 in
     let short = rw e at (sym (c .before .short-in-use .ensures (idsIn s (q .record-request .result) .long)) ∙ c .if3 .taken) in
     sym (short-stands (tableOf (z .args .t .now)) r short) ∙ law z
 
-share-used-up-requires : tie.Need-share-used-up-requires
-share-used-up-requires c κs = search needs
+request-in-use-requires : tie.Need-request-in-use-requires
+request-in-use-requires c κs = search needs
 
 returns-4 : tie.Need-returns-4
 returns-4 c =
@@ -76,19 +76,39 @@ returns-4 c =
     rw (
       sym (d .tidy .ensures) ∙ not-false _ (q .before .if1 .left),
       rw same at (sym (m .listing-of .ensures .0) ∙ not-false _ (i2 .if2 .left)),
-      rw same at (sym (u .share-used-up .ensures) ∙ c .if4 .taken),
+      sym (u .request-in-use .ensures) ∙ c .if4 .taken,
+    ) at (law (d .before .before))
+
+share-used-up-requires : tie.Need-share-used-up-requires
+share-used-up-requires c κs = search needs
+
+returns-5 : tie.Need-returns-5
+returns-5 c =
+    let u = c .before in
+    let n = u .before .before in
+    let i2 = n .before .before .before in
+    let m = i2 .before .before in
+    let q = m .before in
+    let d = q .before .before in
+    let same = ap (λ x. x .sender) (q .record-request .ensures .0) in
+    rw (
+      sym (d .tidy .ensures) ∙ not-false _ (q .before .if1 .left),
+      rw same at (sym (m .listing-of .ensures .0) ∙ not-false _ (i2 .if2 .left)),
+      sym (n .request-in-use .ensures) ∙ u .before .if4 .left,
+      rw same at (sym (u .share-used-up .ensures) ∙ c .if5 .taken),
     ) at (law (d .before .before))
 
 look-up-requires : tie.Need-look-up-requires
 look-up-requires c κs =
-    let q = c .before .before .before .before .before .before .before in
+    let q = c .before .before .before .before .before .before .before .before .before in
     (q .before .before .before .before .pre .1, q .record-request .ensures .1, q .record-request .ensures .2)
 
-returns-5 : tie.Need-returns-5
-returns-5 c =
+returns-6 : tie.Need-returns-6
+returns-6 c =
     let l = c .before .before in
     let u = l .before .before in
-    let i2 = u .before .before .before in
+    let n = u .before .before in
+    let i2 = n .before .before .before in
     let m = i2 .before .before in
     let q = m .before in
     let d = q .before .before in
@@ -100,7 +120,8 @@ returns-5 c =
     (rw (
       sym (d .tidy .ensures) ∙ not-false _ (q .before .if1 .left),
       rw same at (sym (m .listing-of .ensures .0) ∙ not-false _ (i2 .if2 .left)),
-      rw same at (sym (u .share-used-up .ensures) ∙ l .before .if4 .left),
+      sym (n .request-in-use .ensures) ∙ u .before .if4 .left,
+      rw same at (sym (u .share-used-up .ensures) ∙ l .before .if5 .left),
     ) at (law z))
 
 pub stands-spec : {M : Type 1} → statement M
@@ -114,7 +135,9 @@ stands-spec =
     returns-2
     short-in-use-requires
     returns-3
-    share-used-up-requires
+    request-in-use-requires
     returns-4
+    share-used-up-requires
+    returns-5
     look-up-requires
-    returns-5)
+    returns-6)

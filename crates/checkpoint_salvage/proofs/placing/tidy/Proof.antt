@@ -1,7 +1,7 @@
 -- `placing::tidy` meets its contract: each number is the callee's, and the bytes are those of the name.
 use native.Mathlib.Omega.{arith}
-use Prim.Native.Nat.{ℕ, _≤_}
-use mathlib.Core.Path.{_≡_}
+use Prim.Native.Nat.{ℕ, _≤_, _%_}
+use mathlib.Core.Path.{_≡_, ap}
 use mathlib.Core.Bool.{false, not, _&&_}
 use lib.Dec.{ltb, leb}
 use borrow.Author.Tests.{ltb-true, leb-true, not-false}
@@ -34,7 +34,7 @@ returns : tie.Need-returns
 returns c =
     let u = c .before in
     let a = u .before .before .before .args in
-    untidy (a .s .now) (a .i) _ (u .to-usize .ensures .0) (c .if1 .taken)
+    untidy (a .s .now) (a .i) _ (ap (λ (n : ℕ). n % 128) (u .to-usize .ensures .0)) (c .if1 .taken)
 
 add-ends : tie.Need-add-ends
 add-ends c = search needs
@@ -43,7 +43,7 @@ add-ends-2 : tie.Need-add-ends-2
 add-ends-2 c = search needs
 
 shared-slice-read-ends : tie.Need-shared-slice-read-ends
-shared-slice-read-ends c = omega (arith, few (c .before .before .to-usize .result) (c .before .if1 .left))
+shared-slice-read-ends c = omega (arith, few (c .before .before .to-usize .result % 128) (c .before .if1 .left))
 
 add-zeros : tie.Need-add-zeros
 add-zeros c = search needs
@@ -52,28 +52,10 @@ add-zeros-2 : tie.Need-add-zeros-2
 add-zeros-2 c = search needs
 
 sub-zeros : tie.Need-sub-zeros
-sub-zeros c = omega (arith, few (c .before .before .to-usize .result) (c .before .if1 .left))
+sub-zeros c = omega (arith, few (c .before .before .to-usize .result % 128) (c .before .if1 .left))
 
 zeros-requires : tie.Need-zeros-requires
-zeros-requires c κs = omega (arith, few (c .before .before .to-usize .result) (c .before .if1 .left))
-
-add-get32 : tie.Need-add-get32
-add-get32 c = search needs
-
-get32-requires : tie.Need-get32-requires
-get32-requires c κs = search needs
-
-add-get24 : tie.Need-add-get24
-add-get24 c = search needs
-
-get24-requires : tie.Need-get24-requires
-get24-requires c κs = search needs
-
-add-get32-2 : tie.Need-add-get32-2
-add-get32-2 c = search needs
-
-get32-requires-2 : tie.Need-get32-requires-2
-get32-requires-2 c κs = search needs
+zeros-requires c κs = omega (arith, few (c .before .before .to-usize .result % 128) (c .before .if1 .left))
 
 add-get16 : tie.Need-add-get16
 add-get16 c = search needs
@@ -81,15 +63,18 @@ add-get16 c = search needs
 get16-requires : tie.Need-get16-requires
 get16-requires c κs = search needs
 
+request-tidy-requires : tie.Need-request-tidy-requires
+request-tidy-requires c κs = search needs
+
 returns-2 : tie.Need-returns-2
 returns-2 c =
-    let d = c .before .before in
-    let z = d .before .before in
+    let g = c .before in
+    let z = g .before in
     let u = z .before .before .before in
     let a = u .before .before .before .args in
     let sized = both _ _ (not-false _ (z .before .before .if1 .left)) in
-    rw (c .get16 .ensures, c .before .get322 .ensures, d .get24 .ensures, d .before .get32 .ensures, z .zeros .ensures)
-    (tidy-is (a .s .now) (a .i) _ (u .to-usize .ensures .0) (ltb-true _ _ (sized .0)) (leb-true _ _ (sized .1)) (omega (arith, c .get16 .ensures, c .get16 .ok)))
+    rw (g .get16 .ensures, z .zeros .ensures)
+    (tidy-is (a .s .now) (a .i) _ (ap (λ (n : ℕ). n % 128) (u .to-usize .ensures .0)) _ (c .request-tidy .ensures) (ltb-true _ _ (sized .0)) (leb-true _ _ (sized .1)) (omega (arith, g .get16 .ensures, g .get16 .ok)))
 
 pub tidy-spec : {M : Type 1} → statement M
 tidy-spec =
@@ -108,12 +93,7 @@ tidy-spec =
     add-zeros-2
     sub-zeros
     zeros-requires
-    add-get32
-    get32-requires
-    add-get24
-    get24-requires
-    add-get32-2
-    get32-requires-2
     add-get16
     get16-requires
+    request-tidy-requires
     returns-2)

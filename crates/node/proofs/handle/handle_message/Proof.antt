@@ -6,14 +6,14 @@ use Rattle.node.proofs.handle.handle_message.Tie as tie
 enum-known-m : tie.Need-enum-known-m
 enum-known-m c = search needs
 
-open-call-requires : tie.Need-open-call-requires
-open-call-requires c κs = rw (c .before .before .before .m .given .1) at (c .before .before .before .before .before .before .before .pre)
+open-requires : tie.Need-open-requires
+open-requires c κs = let p = rw (c .before .before .before .m .given .1) at (c .before .before .before .before .before .before .before .pre) in (p .0, p .1, p .2 .0, p .3)
 
 enum-known-m-2 : tie.Need-enum-known-m-2
 enum-known-m-2 c = search needs
 
 close-call-requires : tie.Need-close-call-requires
-close-call-requires c κs = let p = rw (c .before .before .before .m2 .given .1) at (c .before .before .before .before .before .before .before .pre) in (p .0, p .2, p .3)
+close-call-requires c κs = let p = rw (c .before .before .before .m2 .given .1) at (c .before .before .before .before .before .before .before .pre) in (p .0, p .2 .0, p .2 .1, p .3)
 
 enum-known-m-3 : tie.Need-enum-known-m-3
 enum-known-m-3 c = search needs
@@ -31,7 +31,7 @@ same-length : tie.Need-same-length
 same-length c = search needs
 
 returns : tie.Need-returns
-returns c = rw (c .before .before .before .before .before .before .m .given .1) (c .before .before .open-call .ensures)
+returns c = rw (c .before .before .before .before .before .before .m .given .1) (c .before .before .open .ensures)
 
 same-length-2 : tie.Need-same-length-2
 same-length-2 c = search needs
@@ -56,7 +56,7 @@ handle-message-spec =
     tie.close
     (tie.spec
     enum-known-m
-    open-call-requires
+    open-requires
     enum-known-m-2
     close-call-requires
     enum-known-m-3

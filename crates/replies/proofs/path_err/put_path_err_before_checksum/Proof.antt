@@ -7,9 +7,11 @@ use denote.Ref.{now}
 use borrow.Author.Needs.{needs}
 use Rattle.objects.specs.Part.{partOf}
 use Rattle.reply_objects.specs.Objects.{errorSpecBytes}
+use Rattle.reply_objects.specs.Header.{headerBytes}
+use Rattle.reply_objects.proofs.Written.{begun, more}
 use Rattle.replies.specs.Messages.{pathErrBeforeChecksum}
 use Rattle.replies.proofs.Lengths.{part-length, path-err-length}
-use Rattle.replies.proofs.Written.{begun, more, complete}
+use Rattle.replies.proofs.Written.{complete}
 use Rattle.replies.proofs.path_err.put_path_err_before_checksum.Statement.{statement}
 use Rattle.replies.proofs.path_err.put_path_err_before_checksum.Tie as tie
 
@@ -78,7 +80,7 @@ returns c =
     let session = partOf msg (e .session) in
     let error = errorSpecBytes (e .error) in
     let template = partOf msg (e .template) in
-    let w1 = begun 3 48 (at1 .put-header .ensures) in
+    let w1 = begun (headerBytes 3 48) refl (at1 .put-header .ensures) in
     let w2 = more session w1 (part-length msg (e .session) (fits .session)) (omega arith) (at2 .put-received .ensures) in
     let w3 = more error w2 refl (omega arith) (at3 .put-error-spec .ensures) in
     let w4 = more template w3 (part-length msg (e .template) (fits .template)) (omega arith) (at4 .put-received2 .ensures) in

@@ -1,0 +1,4 @@
+pub mod HexDigits
+pub mod Words
+pub mod Taken
+pub mod Marks
