@@ -52,7 +52,7 @@ module _ (q : CallRequest) (n : nameless q ≡ true) where
       ≡ notifyMadeBytes s (notifyFor (t .address) (ownId t) q callBit CallOpened) (madeFor (entries t) (q .endpoint) (q .sender) .short) (madeFor (entries t) (q .endpoint) (q .sender) .long)
   reply-20 t s = rw n
 
-  found-same : (t : Table) (s : List ℕ) → slotOf t (isNamedBy s q) ≡ slotOf t (isMadeBy q)
+  pub found-same : (t : Table) (s : List ℕ) → slotOf t (isNamedBy s q) ≡ slotOf t (isMadeBy q)
   found-same t s = ap (λ b. slotOf t (λ e. cond b (isMadeBy q e) (isCall (idsIn s q) e))) n
 
   pub reply-21 : (t : Table) (s : List ℕ)

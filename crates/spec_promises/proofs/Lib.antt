@@ -6,3 +6,4 @@ pub mod Connections
 pub mod Named
 pub mod Demand3
 pub mod Buffer
+pub mod Made

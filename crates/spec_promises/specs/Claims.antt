@@ -3,7 +3,7 @@
 use Prim.Native.Nat.{ℕ, _<_}
 use mathlib.Core.Path.{_≡_}
 use mathlib.Core.List.{List, []}
-use mathlib.Core.Bool.{Bool, true, false}
+use mathlib.Core.Bool.{Bool, true, false, _&&_}
 use lib.ListN.{length, take, drop}
 use Rattle.numbers.specs.BigEndian.{Bytes}
 use Rattle.numbers.specs.Checksum.{wordsSum}
@@ -15,12 +15,13 @@ use Rattle.table.specs.Total.{totalOf}
 use Rattle.table.specs.Lists.{roster, Ids, Entry, callAt, entries, Held, held}
 use Rattle.table.specs.Rules.{rulesHold}
 use Rattle.table.specs.Roster.{rosterNumber, customersIn, totalIn, recordsIn, rosterAnswer, tableFor}
+use Rattle.spec_changes.specs.Calls.{isCall}
 use Rattle.spec_changes.specs.Connections.{callMissing, isUnder}
 use Rattle.answers.specs.Answers.{answerNumber, is, sendsNotify}
 use Rattle.spec_calls.specs.Form.{sound, formOf}
-use Rattle.spec_calls.specs.CallRules.{isOpen, isRetry}
-use Rattle.spec_calls.specs.Handling.{handled, replyAfter, answerOf}
-use Rattle.spec_promises.specs.Ledger.{Fed, ledger}
+use Rattle.spec_calls.specs.CallRules.{nameless, isMadeBy, isOpen, isRetry}
+use Rattle.spec_calls.specs.Handling.{answeredIds, handled, replyAfter, answerOf}
+use Rattle.spec_promises.specs.Ledger.{Fed, feed, ledger}
 use Rattle.spec_promises.specs.Connections.{connectionsAfter, isHeld, isTornDown, isSetUp}
 use Rattle.spec_promises.specs.Promises.{Input, fed, tableThen, AtEveryStep, Promised, Agrees, Unchanged, Cause}
 
@@ -107,6 +108,27 @@ BusyCallStays = AtOneMessage (λ t l x. (c : Ids) → isOpen (entries t) c ≡ t
 abbrev pub RetryIs21 : Type 0
 RetryIs21 = AtOneMessage (λ t l x. (q : CallRequest) → formOf (roster t) (x .message) (length (x .buffer)) ≡ sound (Open q)
     → isRetry l (x .message) q ≡ true → (answerNumber (fed t x .answer) ≡ 21) × Unchanged t (tableThen t x))
+
+-- ---- calls that the node made (02, A6)
+
+-- the ledger has a call with these IDs that was made for a request's pair and two numbers
+abbrev pub isMadeWith : CallRequest → Ids → Entry → Bool
+isMadeWith q c e = isMadeBy q e && isCall c e
+
+-- a setup without names that is answered 20 is entered so, with the IDs that its reply carries. Not so of a node that
+-- sends one name and keeps another, or forgets the numbers
+abbrev pub MadeEntered : Type 0
+MadeEntered = AtOneMessage (λ t l x. (q : CallRequest) → formOf (roster t) (x .message) (length (x .buffer)) ≡ sound (Open q) → nameless q ≡ true
+    → is 20 (fed t x .answer) ≡ true
+    → has (isMadeWith q (answeredIds t (x .message) q (fed t x .answer))) (feed (totalOf t) (fed t x) l) ≡ true)
+
+-- as long as the ledger has it, whatever came in between, a setup without names of that pair and these numbers is a retry:
+-- it is answered 21, the reply carries the same ID and name, and calls and connections are as they were. Not so of a node
+-- that opens the call a second time, or gives the retry another call's name
+abbrev pub MadeRetryIs21 : Type 0
+MadeRetryIs21 = AtOneMessage (λ t l x. (q : CallRequest) (c : Ids) → formOf (roster t) (x .message) (length (x .buffer)) ≡ sound (Open q) → nameless q ≡ true
+    → has (isMadeWith q c) l ≡ true
+    → (answerNumber (fed t x .answer) ≡ 21) × (answeredIds t (x .message) q (fed t x .answer) ≡ c) × Unchanged t (tableThen t x))
 
 -- a setup that is refused had to be: each refusal has its cause in the ledger (01, Every answer)
 abbrev pub SetupCause : Type 0

@@ -16,7 +16,7 @@ use Rattle.messages.specs.Counts.{notifyComplete, pathComplete}
 use Rattle.messages.specs.Fields.{connectionIn, requestAt}
 use Rattle.messages.specs.Read.{isCallRequest, isNameless, badIdentity, notifyOf, pathOf, readOf}
 use Rattle.reply_objects.specs.Header.{checksumOf, withChecksum}
-use Rattle.replies.specs.Messages.{pathErrBeforeChecksum, pathErrBytes, notifyBeforeChecksum, notifyBytes}
+use Rattle.replies.specs.Messages.{pathErrBeforeChecksum, pathErrBytes, notifyBeforeChecksum, notifyBytes, notifyMadeBytes}
 use Rattle.lists.specs.Below.{elementIf, listIf, below, everyBelow, firstBelow, firstNot}
 use Rattle.table.specs.Word.{withSet, withClear, isUsed, withUsed, withFree}
 use Rattle.table.specs.Zeros.{noCall, noCustomer, emptyTable}
@@ -27,11 +27,13 @@ use Rattle.spec_changes.specs.Calls.{opened, closed}
 use Rattle.spec_changes.specs.Connections.{addedUnder, removedUnder, added, removed}
 use Rattle.spec_calls.specs.Form.{listedOr11, formOf}
 use Rattle.spec_calls.specs.CallRules.{shareUsedUp, openAnswer, closeAnswer}
+use Rattle.spec_calls.specs.Made.{hexDigit, hexDigits, madeName, isUnused, madeShort}
 use Rattle.spec_calls.specs.PathRules.{addAnswer, dropAnswer}
 use Rattle.spec_calls.specs.Handling.{tableAfter, replyAfter}
 use Rattle.starred_cases.specs.TwoCustomers.{expected, buffer, outcomes, cases, CasesHold}
 use Rattle.starred_cases.specs.TwoHundred.{twoHundred, TwoHundredHold, slotsIn, slotRoster, slotMessages, slotsAfter, slotsDue, LowestTaken}
 use Rattle.starred_cases.specs.Replies.{replied, replyCases, RepliesHold}
+use Rattle.starred_cases.specs.Nameless.{limitOf3, namelessCases, namelessResults, NamelessHold}
 use Rattle.starred_cases.specs.PaddedNames.{rosterBytes, paddedCases, paddedResults, PaddedHold}
 use Rattle.starred_cases.proofs.Unchecked.{unchecked, allBytes, through-same, empty-sound, roster-sound, rowsBytes, outcomes-same, replyBytes, replies-same, paddedBytes, padded-same}
 
@@ -93,3 +95,14 @@ padded-computed = refl
 
 pub padded-hold : PaddedHold
 padded-hold = padded-same paddedCases _ (roster-sound rosterBytes refl) padded-bytes ∙ padded-computed
+
+nameless-bytes : paddedBytes namelessCases ≡ true
+unfolding namelessCases
+nameless-bytes = refl
+
+nameless-computed : namelessResults unchecked ≡ map (λ c. c .result) namelessCases
+unfolding namelessCases hexDigit hexDigits madeName isUnused madeShort notifyMadeBytes withSet withClear isUsed withUsed withFree firstNot atFront isIn zerosAt unpadded passedOver refusedClass hasForm attributeFormed formed misformed badLength itemAt seen objectsOf walkFrom walkOf badMessageLength checksumHolds typeOf headerOf notifyComplete pathComplete connectionIn requestAt isCallRequest isNameless badIdentity notifyOf pathOf readOf elementIf listIf below everyBelow firstBelow noCall noCustomer emptyTable S badShare sameBytes sameShort sameLong sameLsp guaranteeIn limitIn spareIn badForm recordsAnswer rosterAnswer customersFrom freshTable tableFor opened closed addedUnder removedUnder added removed listedOr11 formOf shareUsedUp openAnswer closeAnswer addAnswer dropAnswer tableAfter replyAfter pathErrBytes pathErrBeforeChecksum notifyBytes notifyBeforeChecksum withChecksum checksumOf wordsSum allRound firstWords
+nameless-computed = refl
+
+pub nameless-hold : NamelessHold
+nameless-hold = padded-same namelessCases _ (roster-sound limitOf3 refl) nameless-bytes ∙ nameless-computed

@@ -3,3 +3,4 @@ pub mod TwoCustomers
 pub mod TwoHundred
 pub mod Replies
 pub mod PaddedNames
+pub mod Nameless

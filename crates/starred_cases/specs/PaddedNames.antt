@@ -42,7 +42,7 @@ asked short size bytes = notifyWith 0x80000008 X short (7 ∷ 7 ∷ 0 ∷ size �
 abbrev close : ℕ → ℕ → List ℕ → List ℕ
 close short size bytes = notifyWith 0x80000009 X short (7 ∷ 7 ∷ 0 ∷ size ∷ bytes)
 
-abbrev row : List ℕ → ℕ → ℕ → Bool → PaddedCase
+abbrev pub row : List ℕ → ℕ → ℕ → Bool → PaddedCase
 row message answer length equal = record { message = message; result = record { answer = answer; length = length; equal = equal } }
 
 unfoldable pub paddedCases : List PaddedCase

@@ -44,9 +44,9 @@ expected (ask before message outcome) = outcome
 abbrev fourNumbers : Four → List ℕ
 fourNumbers f = below (λ j. f .endpoint j ∷ placeAt f j .taken ∷ placeAt f j .tunnel ∷ placeAt f j .extended ∷ placeAt f j .lsp ∷ []) 4
 
--- what a slot says, but for the fields of later requests, which a table rule holds at zero
+-- what a slot says, but for the last refresh, which a table rule holds at zero
 abbrev callNumbers : Call → List ℕ
-callNumbers c = c .endpoint ∷ c .sender ∷ c .id ∷ c .size ∷ (c .name ++ fourNumbers (callFour c))
+callNumbers c = c .endpoint ∷ c .sender ∷ c .epoch ∷ c .identifier ∷ c .id ∷ c .made ∷ c .size ∷ (c .name ++ fourNumbers (callFour c))
 
 abbrev pub unchanged : Table → Table → Bool
 unchanged t u =
@@ -99,12 +99,15 @@ session call tunnel = object 1 7 (bytes32 0x0a000002 ++ bytes16 call ++ bytes16 
 abbrev pub template : ℕ → ℕ → List ℕ
 template sender lsp = object 11 7 (bytes32 sender ++ bytes16 0 ++ bytes16 lsp)
 
--- a Notify with these ADMIN_STATUS bits and this body of the SESSION_ATTRIBUTE
-abbrev pub notifyWith : ℕ → ℕ → ℕ → List ℕ → List ℕ
-notifyWith status sender call attribute =
+-- a Notify with this MESSAGE_ID's identifier, these ADMIN_STATUS bits and this body of the SESSION_ATTRIBUTE
+abbrev pub notifyNumbered : ℕ → ℕ → ℕ → ℕ → List ℕ → List ℕ
+notifyNumbered identifier status sender call attribute =
     message 21
-    (session call 0 ++ object 6 1 (replicate 8 0) ++ template sender 0 ++ object 23 1 (bytes32 1 ++ bytes32 7)
+    (session call 0 ++ object 6 1 (replicate 8 0) ++ template sender 0 ++ object 23 1 (bytes32 1 ++ bytes32 identifier)
     ++ object 196 1 (bytes32 status) ++ object 207 7 attribute)
+
+abbrev pub notifyWith : ℕ → ℕ → ℕ → List ℕ → List ℕ
+notifyWith status sender call attribute = notifyNumbered 7 status sender call attribute
 
 -- with a name of one byte
 abbrev notify : ℕ → ℕ → ℕ → ℕ → List ℕ

@@ -1,0 +1,131 @@
+-- Calls that the node made: a setup without names is entered with the IDs that its reply carries, and its retry finds them.
+-- Assumes nothing.
+use Prim.Native.Nat.{ℕ, _≤_, _<_}
+use native.Mathlib.Omega.{arith}
+use mathlib.Core.Path.{_≡_, refl, sym, ap, _∙_}
+use mathlib.Core.List.{List, _∷_}
+use mathlib.Core.Bool.{Bool, true, false, not, _&&_}
+use lib.Dec.{eqb}
+use lib.ListN.{length}
+use borrow.Author.Tests.{eqb-true}
+use Rattle.lists.specs.Count.{bit, countIf}
+use Rattle.lists.proofs.Tests.{both}
+use Rattle.lists.proofs.Count.{has-true, true-has, count-le, count-split}
+use Rattle.lists.proofs.Below.{count-element, count-at}
+use Rattle.messages.specs.declared.message.CallRequest.{CallRequest}
+use Rattle.messages.specs.declared.message.Message.the-variants.{Open}
+use Rattle.table.specs.Table.{Table}
+use Rattle.table.specs.Total.{slots, totalOf}
+use Rattle.table.specs.Word.{isUsed}
+use Rattle.table.specs.Lists.{roster, Ids, Entry, callAt, idsOf, entryOf, openAt, entries}
+use Rattle.table.specs.Rules.{sameBytes, samePair, sameShort, sameLong, sameRequest, rulesHold}
+use Rattle.table.proofs.SameBytes.{same-bytes}
+use Rattle.spec_changes.specs.Calls.{entryFor, isCall, slotOf}
+use Rattle.spec_changes.proofs.Alike.{self, short-self, long-self}
+use Rattle.spec_changes.proofs.Slot.{found-slot}
+use Rattle.spec_changes.proofs.Told.{rules-kept}
+use Rattle.answers.specs.Answers.{answerNumber, is}
+use Rattle.spec_calls.specs.Form.{sound}
+use Rattle.spec_calls.specs.CallRules.{nameless, isMadeBy}
+use Rattle.spec_calls.specs.Made.{madeFor, newFor}
+use Rattle.spec_calls.proofs.Nameless.{made-retry, found-same}
+use Rattle.spec_calls.proofs.MadeSame.{new-same}
+use Rattle.spec_promises.specs.Ledger.{lowestSlot}
+use Rattle.spec_promises.specs.Promises.{fed, tableThen, Unchanged}
+use Rattle.spec_promises.specs.Claims.{isMadeWith, MadeEntered, MadeRetryIs21}
+use Rattle.spec_promises.proofs.Formed.{Says, form-says}
+use Rattle.spec_promises.proofs.Named.{retry-is-21}
+
+-- ---- a call that has all four is the one with these IDs
+
+call-ids : (c d : Ids) → sameShort c d ≡ true → sameLong c d ≡ true → d ≡ c
+unfolding sameShort sameLong
+call-ids c d h k =
+    let a = both (samePair c d) (eqb (c .short) (d .short)) h in
+    let p = both (eqb (c .endpoint) (d .endpoint)) (eqb (c .sender) (d .sender)) (a .0) in
+    let b = both (samePair c d) (sameBytes (c .long) (d .long)) k in
+    fields (sym (eqb-true _ _ (p .0))) (sym (eqb-true _ _ (p .1))) (sym (eqb-true _ _ (a .1))) (sym (same-bytes (c .long) (d .long) (b .1)))
+  where
+    fields : d .endpoint ≡ c .endpoint → d .sender ≡ c .sender → d .short ≡ c .short → d .long ≡ c .long
+        → _≡_ {A = Ids} (record { endpoint = d .endpoint; sender = d .sender; short = d .short; long = d .long }) (record { endpoint = c .endpoint; sender = c .sender; short = c .short; long = c .long })
+    fields p q r s = rw (p, q, r, s)
+
+-- ---- the call found is the only one
+
+module _ (t : Table) (q : CallRequest) (rules : rulesHold t ≡ true) where
+  -- no two calls are made for one pair and two numbers
+  made-once : countIf (isMadeBy q) (entries t) ≤ 1
+  unfolding sameRequest
+  made-once = rules-kept t rules .calls .requests (entryFor 0 (record { ids = madeFor (entries t) (q .endpoint) (q .sender); made = true; request = q .sequence }))
+
+  found-is : (c : Ids) → 0 < countIf (isMadeWith q c) (entries t) → idsOf (callAt t (slotOf t (isMadeBy q))) ≡ c
+  found-is c h = by (isCall c e) refl
+    where
+      k : ℕ
+      k = slotOf t (isMadeBy q)
+
+      e : Entry
+      e = entryOf k (callAt t k)
+
+      some : 0 < countIf (isMadeBy q) (entries t)
+      some = omega (arith, h, count-le (isMadeWith q c) (isMadeBy q) (entries t) (λ x m. both (isMadeBy q x) (isCall c x) m .0))
+
+      f : (k < slots) × (isUsed (t .occupied) k ≡ true) × (isMadeBy q e ≡ true)
+      f = found-slot t (isMadeBy q) some
+
+      -- calls that were made for it and have other IDs
+      others : Entry → Bool
+      others x = not (isCall c x) && isMadeBy q x
+
+      swapped : (a b : Bool) → (a && b) ≡ true → (b && a) ≡ true
+      swapped true true m = refl
+      swapped true false m = m
+      swapped false b m = cc
+
+      by : (b : Bool) → isCall c e ≡ b → idsOf (callAt t k) ≡ c
+      by true m = let n = both (sameShort c (e .ids)) (sameLong c (e .ids)) m in call-ids c (e .ids) (n .0) (n .1)
+      by false m =
+          let here : bit (isUsed (t .occupied) k && others e) ≡ 1 = rw (f .1, m, f .2) in
+          let z : ⊥ = omega (
+            arith,
+            made-once,
+            count-split (isMadeBy q) (isCall c) (entries t),
+            count-le (isMadeWith q c) (λ x. isCall c x && isMadeBy q x) (entries t) (λ x n. swapped (isMadeBy q x) (isCall c x) n),
+            h,
+            count-at (openAt t) others k slots (f .0),
+            count-element others (isUsed (t .occupied) k) e,
+            here,
+          ) in
+          absurd z
+
+pub made-retry-is-21 : MadeRetryIs21
+made-retry-is-21 t l g x q c e n h = (r .0, rw (other, found-same q n t s) (found-is t q (g .rules) c count), r .1)
+  where
+    s : List ℕ
+    s = x .message
+
+    count : 0 < countIf (isMadeWith q c) (entries t)
+    count = rw (g .calls (isMadeWith q c)) (has-true (isMadeWith q c) l h)
+
+    some : 0 < countIf (isMadeBy q) l
+    some = omega (arith, has-true (isMadeWith q c) l h, count-le (isMadeWith q c) (isMadeBy q) l (λ y m. both (isMadeBy q y) (isCall c y) m .0))
+
+    r : (answerNumber (fed t x .answer) ≡ 21) × Unchanged t (tableThen t x)
+    r = retry-is-21 t l g x q e (made-retry q n l s ∙ true-has (isMadeBy q) l some)
+
+    other : is 20 (fed t x .answer) ≡ false
+    other = rw (r .0)
+
+-- ---- 20 enters it
+
+entered : (k : ℕ) (l : List Entry) (s : List ℕ) (q : CallRequest) → nameless q ≡ true → isMadeWith q (newFor l s q .ids) (entryFor k (newFor l s q)) ≡ true
+entered k l s q n =
+    let c = madeFor l (q .endpoint) (q .sender) in
+    rw (n, self (q .endpoint), self (q .sender), self (q .sequence .epoch), self (q .sequence .identifier), short-self c, long-self c)
+
+pub made-entered : MadeEntered
+made-entered t l g x q e n h =
+    let s = x .message in
+    let i : Says (roster t) s (sound (Open q)) = rw e at (form-says (roster t) s (length (x .buffer))) in
+    rw (h, i .opened (totalOf t) l, new-same (entries t) l (g .calls) s q)
+    (true-has (isMadeWith q (newFor l s q .ids)) (entryFor (lowestSlot l (totalOf t)) (newFor l s q) ∷ l) (omega (arith, ap bit (entered (lowestSlot l (totalOf t)) l s q n))))
