@@ -115,16 +115,16 @@ RetryIs21 = AtOneMessage (λ t l x. (q : CallRequest) → formOf (roster t) (x .
 abbrev pub isMadeWith : CallRequest → Ids → Entry → Bool
 isMadeWith q c e = isMadeBy q e && isCall c e
 
--- a setup without names that is answered 20 is entered so, with the IDs that its reply carries. Not so of a node that
--- sends one name and keeps another, or forgets the numbers
+-- a setup without names that is answered 20 is entered so, with the IDs for its reply (`openReply` puts them there). Not so
+-- of a node that makes one name and keeps another, or forgets the numbers
 abbrev pub MadeEntered : Type 0
 MadeEntered = AtOneMessage (λ t l x. (q : CallRequest) → formOf (roster t) (x .message) (length (x .buffer)) ≡ sound (Open q) → nameless q ≡ true
     → is 20 (fed t x .answer) ≡ true
     → has (isMadeWith q (answeredIds t (x .message) q (fed t x .answer))) (feed (totalOf t) (fed t x) l) ≡ true)
 
 -- as long as the ledger has it, whatever came in between, a setup without names of that pair and these numbers is a retry:
--- it is answered 21, the reply carries the same ID and name, and calls and connections are as they were. Not so of a node
--- that opens the call a second time, or gives the retry another call's name
+-- it is answered 21, the IDs for its reply are the same, and calls and connections are as they were. Not so of a node that
+-- opens the call a second time, or has another call's name for the retry
 abbrev pub MadeRetryIs21 : Type 0
 MadeRetryIs21 = AtOneMessage (λ t l x. (q : CallRequest) (c : Ids) → formOf (roster t) (x .message) (length (x .buffer)) ≡ sound (Open q) → nameless q ≡ true
     → has (isMadeWith q c) l ≡ true
