@@ -4,11 +4,11 @@ use Prim.Native.Nat.{ℕ, _≤_, _<_}
 use native.Mathlib.Omega.{arith}
 use mathlib.Core.Path.{_≡_, refl, sym, ap, _∙_}
 use mathlib.Core.List.{List, _∷_}
-use mathlib.Core.Bool.{Bool, true, false, not, _&&_}
+use mathlib.Core.Bool.{Bool, true, false, not, _&&_, true≢false}
 use lib.Dec.{eqb}
 use lib.ListN.{length}
 use borrow.Author.Tests.{eqb-true}
-use Rattle.lists.specs.Count.{bit, countIf}
+use Rattle.lists.specs.Count.{bit, countIf, has}
 use Rattle.lists.proofs.Tests.{both}
 use Rattle.lists.proofs.Count.{has-true, true-has, count-le, count-split}
 use Rattle.lists.proofs.Below.{count-element, count-at}
@@ -24,17 +24,21 @@ use Rattle.spec_changes.specs.Calls.{entryFor, isCall, slotOf}
 use Rattle.spec_changes.proofs.Alike.{self, short-self, long-self}
 use Rattle.spec_changes.proofs.Slot.{found-slot}
 use Rattle.spec_changes.proofs.Told.{rules-kept}
-use Rattle.answers.specs.Answers.{answerNumber, is}
-use Rattle.spec_calls.specs.Form.{sound}
-use Rattle.spec_calls.specs.CallRules.{nameless, isMadeBy}
+use Rattle.answers.specs.declared.answer.Answer.{Answer}
+use Rattle.answers.specs.Answers.{answerNumber, is, sendsNotify}
+use Rattle.spec_calls.specs.Form.{sound, formOf}
+use Rattle.spec_calls.specs.CallRules.{nameless, isMadeBy, isNamedBy, isRetry}
 use Rattle.spec_calls.specs.Made.{madeFor, newFor}
+use Rattle.spec_calls.specs.Handling.{answeredIds, replyAfter}
+use Rattle.spec_calls.proofs.Decided.{open-again}
 use Rattle.spec_calls.proofs.Nameless.{made-retry, found-same}
 use Rattle.spec_calls.proofs.MadeSame.{new-same}
-use Rattle.spec_promises.specs.Ledger.{lowestSlot}
-use Rattle.spec_promises.specs.Promises.{fed, tableThen, Unchanged}
-use Rattle.spec_promises.specs.Claims.{isMadeWith, MadeEntered, MadeRetryIs21}
+use Rattle.spec_promises.specs.Ledger.{feed, lowestSlot}
+use Rattle.spec_promises.specs.Promises.{Input, fed, tableThen, Unchanged}
+use Rattle.spec_promises.specs.Claims.{isMadeWith, RepliesWith, MadeEntered, MadeRetryIs21}
 use Rattle.spec_promises.proofs.Formed.{Says, form-says}
-use Rattle.spec_promises.proofs.Named.{retry-is-21}
+use Rattle.spec_promises.proofs.Step.{answer-is}
+use Rattle.spec_promises.proofs.Named.{notified, retry-is-21}
 
 -- ---- a call that has all four is the one with these IDs
 
@@ -98,8 +102,23 @@ module _ (t : Table) (q : CallRequest) (rules : rulesHold t ≡ true) where
           ) in
           absurd z
 
+-- ---- the reply carries the IDs that are answered
+
+-- 20 sends a Notify, and is not 34
+opened-sends : (a : Answer) → is 20 a ≡ true → (sendsNotify a ≡ true) × (is 34 a ≡ false)
+opened-sends a h = (by (sendsNotify a) refl, rw (eqb-true (answerNumber a) 20 h))
+  where
+    by : (b : Bool) → sendsNotify a ≡ b → sendsNotify a ≡ true
+    by true e = e
+    by false e = absurd (true≢false (sym h ∙ notified a e .0))
+
+carried : (t : Table) (x : Input) (q : CallRequest) → formOf (roster t) (x .message) (length (x .buffer)) ≡ sound (Open q) → nameless q ≡ true
+    → sendsNotify (fed t x .answer) ≡ true → is 34 (fed t x .answer) ≡ false → RepliesWith t x q (answeredIds t (x .message) q (fed t x .answer))
+unfolding replyAfter
+carried t x q e n sends other = rw (e, sends, n, other)
+
 pub made-retry-is-21 : MadeRetryIs21
-made-retry-is-21 t l g x q c e n h = (r .0, rw (other, found-same q n t s) (found-is t q (g .rules) c count), r .1)
+made-retry-is-21 t l g x q c e n h = (r .0, rw same at (carried t x q e n sends (rw (r .0))), r .1)
   where
     s : List ℕ
     s = x .message
@@ -110,11 +129,17 @@ made-retry-is-21 t l g x q c e n h = (r .0, rw (other, found-same q n t s) (foun
     some : 0 < countIf (isMadeBy q) l
     some = omega (arith, has-true (isMadeWith q c) l h, count-le (isMadeWith q c) (isMadeBy q) l (λ y m. both (isMadeBy q y) (isCall c y) m .0))
 
-    r : (answerNumber (fed t x .answer) ≡ 21) × Unchanged t (tableThen t x)
-    r = retry-is-21 t l g x q e (made-retry q n l s ∙ true-has (isMadeBy q) l some)
+    known : isRetry l s q ≡ true
+    known = made-retry q n l s ∙ true-has (isMadeBy q) l some
 
-    other : is 20 (fed t x .answer) ≡ false
-    other = rw (r .0)
+    r : (answerNumber (fed t x .answer) ≡ 21) × Unchanged t (tableThen t x)
+    r = retry-is-21 t l g x q e known
+
+    sends : sendsNotify (fed t x .answer) ≡ true
+    sends = rw (answer-is t s (length (x .buffer)) (g .rules), e, open-again (totalOf t) (roster t) (entries t) s q (rw (g .calls (isNamedBy s q)) known))
+
+    same : answeredIds t s q (fed t x .answer) ≡ c
+    same = rw (r .0, found-same q n t s) (found-is t q (g .rules) c count)
 
 -- ---- 20 enters it
 
@@ -124,8 +149,21 @@ entered k l s q n =
     rw (n, self (q .endpoint), self (q .sender), self (q .sequence .epoch), self (q .sequence .identifier), short-self c, long-self c)
 
 pub made-entered : MadeEntered
-made-entered t l g x q e n h =
-    let s = x .message in
-    let i : Says (roster t) s (sound (Open q)) = rw e at (form-says (roster t) s (length (x .buffer))) in
-    rw (h, i .opened (totalOf t) l, new-same (entries t) l (g .calls) s q)
-    (true-has (isMadeWith q (newFor l s q .ids)) (entryFor (lowestSlot l (totalOf t)) (newFor l s q) ∷ l) (omega (arith, ap bit (entered (lowestSlot l (totalOf t)) l s q n))))
+made-entered t l g x q e n h = (newFor (entries t) s q .ids, held, rw same at (carried t x q e n (sends .0) (sends .1)))
+  where
+    s : List ℕ
+    s = x .message
+
+    i : Says (roster t) s (sound (Open q))
+    i = rw e at (form-says (roster t) s (length (x .buffer)))
+
+    sends : (sendsNotify (fed t x .answer) ≡ true) × (is 34 (fed t x .answer) ≡ false)
+    sends = opened-sends (fed t x .answer) h
+
+    same : answeredIds t s q (fed t x .answer) ≡ newFor (entries t) s q .ids
+    same = rw h
+
+    held : has (isMadeWith q (newFor (entries t) s q .ids)) (feed (totalOf t) (fed t x) l) ≡ true
+    held =
+        rw (h, i .opened (totalOf t) l, new-same (entries t) l (g .calls) s q)
+        (true-has (isMadeWith q (newFor l s q .ids)) (entryFor (lowestSlot l (totalOf t)) (newFor l s q) ∷ l) (omega (arith, ap bit (entered (lowestSlot l (totalOf t)) l s q n))))

@@ -67,7 +67,7 @@ refused-unchanged t x =
     form-unchanged t (x .message) (formOf (roster t) (x .message) (length (x .buffer))) (fed t x .answer)
 
 -- 20 and 22 send a Notify
-notified : (a : Answer) → sendsNotify a ≡ false → (is 20 a ≡ false) × (is 22 a ≡ false)
+pub notified : (a : Answer) → sendsNotify a ≡ false → (is 20 a ≡ false) × (is 22 a ≡ false)
 notified TableBroken e = (refl, refl)
 notified BufferTooSmall e = (refl, refl)
 notified (Malformed f) e = (fault-never (Malformed f) (numbered f) 20 (omega arith), fault-never (Malformed f) (numbered f) 22 (omega arith))

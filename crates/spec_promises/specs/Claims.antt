@@ -10,6 +10,8 @@ use Rattle.numbers.specs.Checksum.{wordsSum}
 use Rattle.lists.specs.Count.{countIf, has}
 use Rattle.messages.specs.declared.message.CallRequest.{CallRequest}
 use Rattle.messages.specs.declared.message.Message.the-variants.{Open}
+use Rattle.messages.specs.Status.{callBit}
+use Rattle.replies.specs.Messages.{notifyMadeBytes}
 use Rattle.table.specs.Table.{Table}
 use Rattle.table.specs.Total.{totalOf}
 use Rattle.table.specs.Lists.{roster, Ids, Entry, callAt, entries, Held, held}
@@ -20,7 +22,7 @@ use Rattle.spec_changes.specs.Connections.{callMissing, isUnder}
 use Rattle.answers.specs.Answers.{answerNumber, is, sendsNotify}
 use Rattle.spec_calls.specs.Form.{sound, formOf}
 use Rattle.spec_calls.specs.CallRules.{nameless, isMadeBy, isOpen, isRetry}
-use Rattle.spec_calls.specs.Handling.{answeredIds, handled, replyAfter, answerOf}
+use Rattle.spec_calls.specs.Handling.{ownId, notifyFor, handled, replyAfter, answerOf}
 use Rattle.spec_promises.specs.Ledger.{Fed, feed, ledger}
 use Rattle.spec_promises.specs.Connections.{connectionsAfter, isHeld, isTornDown, isSetUp}
 use Rattle.spec_promises.specs.Promises.{Input, fed, tableThen, AtEveryStep, Promised, Agrees, Unchanged, Cause}
@@ -115,20 +117,26 @@ RetryIs21 = AtOneMessage (λ t l x. (q : CallRequest) → formOf (roster t) (x .
 abbrev pub isMadeWith : CallRequest → Ids → Entry → Bool
 isMadeWith q c e = isMadeBy q e && isCall c e
 
--- a setup without names that is answered 20 is entered so, with the IDs for its reply (`openReply` puts them there). Not so
--- of a node that makes one name and keeps another, or forgets the numbers
+-- the reply is, byte for byte, the Notify with the answer whose SESSION and SESSION_ATTRIBUTE carry these IDs
+abbrev pub RepliesWith : Table → Input → CallRequest → Ids → Type 0
+RepliesWith t x q c =
+    replyAfter t (x .message) (length (x .buffer)) (fed t x .answer)
+    ≡ notifyMadeBytes (x .message) (notifyFor (t .address) (ownId t) q callBit (fed t x .answer)) (c .short) (c .long)
+
+-- a setup without names that is answered 20 is entered so, with the IDs that its reply carries. Not so of a node that makes
+-- one name and keeps another, forgets the numbers, or sends the empty name back
 abbrev pub MadeEntered : Type 0
 MadeEntered = AtOneMessage (λ t l x. (q : CallRequest) → formOf (roster t) (x .message) (length (x .buffer)) ≡ sound (Open q) → nameless q ≡ true
     → is 20 (fed t x .answer) ≡ true
-    → has (isMadeWith q (answeredIds t (x .message) q (fed t x .answer))) (feed (totalOf t) (fed t x) l) ≡ true)
+    → (c : Ids) × (has (isMadeWith q c) (feed (totalOf t) (fed t x) l) ≡ true) × RepliesWith t x q c)
 
 -- as long as the ledger has it, whatever came in between, a setup without names of that pair and these numbers is a retry:
--- it is answered 21, the IDs for its reply are the same, and calls and connections are as they were. Not so of a node that
--- opens the call a second time, or has another call's name for the retry
+-- it is answered 21, its reply carries the same IDs, and calls and connections are as they were. Not so of a node that
+-- opens the call a second time, or whose reply to the retry has another name, or the empty one
 abbrev pub MadeRetryIs21 : Type 0
 MadeRetryIs21 = AtOneMessage (λ t l x. (q : CallRequest) (c : Ids) → formOf (roster t) (x .message) (length (x .buffer)) ≡ sound (Open q) → nameless q ≡ true
     → has (isMadeWith q c) l ≡ true
-    → (answerNumber (fed t x .answer) ≡ 21) × (answeredIds t (x .message) q (fed t x .answer) ≡ c) × Unchanged t (tableThen t x))
+    → (answerNumber (fed t x .answer) ≡ 21) × RepliesWith t x q c × Unchanged t (tableThen t x))
 
 -- a setup that is refused had to be: each refusal has its cause in the ledger (01, Every answer)
 abbrev pub SetupCause : Type 0
