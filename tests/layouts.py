@@ -1,4 +1,4 @@
-"""Rosters, messages, checkpoints and frames, built from the layouts of documents 01 and 02 (requests A11 and A13).
+"""Rosters, messages, checkpoints and frames, built from the layouts of documents 01 and 02 (requests A7, A11 and A13).
 
 The node's own address is END; every message goes to it. An extended tunnel ID is the sender's address. A checkpoint's
 records can have others.
@@ -99,10 +99,10 @@ def checkpoint(calls, connections, form=1):
     return head + b"".join(calls) + b"".join(connections)
 
 
-def call_record(slot, call, sender, name, endpoint=END):
-    """no made mark; last refresh, request epoch and request identifier 0"""
+def call_record(slot, call, sender, name, endpoint=END, refreshed=0):
+    """no made mark; request epoch and request identifier 0"""
     ids = struct.pack(">BH", slot, call) + address(endpoint) + address(sender)
-    return ids + bytes([len(name)]) + name.ljust(32, b"\0") + bytes(4 + 3 + 4)
+    return ids + bytes([len(name)]) + name.ljust(32, b"\0") + struct.pack(">I", refreshed) + bytes(3 + 4)
 
 
 def connection_record(call, sender, tunnel, lsp, endpoint=END, extended=None):

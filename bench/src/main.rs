@@ -8,11 +8,15 @@
 //!
 //! bench nameless [quick]: messages about calls that arrived without names as a ratio to the same about named ones, both
 //! of the proved program.
+//!
+//! bench expiry [quick]: messages with a period, where no call is due and where all are, as a ratio to the same with
+//! period 0, both of the proved program.
 
 mod checkpoints;
 mod chosen;
 mod chosen_checkpoints;
 mod clock;
+mod expiry;
 mod inputs;
 mod largest;
 mod messages;
@@ -28,9 +32,10 @@ use inputs::{Calls, Pairs, ALL};
 
 fn main() {
     let asked = |what: &str| std::env::args().any(|argument| argument == what);
-    match (asked("peer"), asked("nameless")) {
-        (true, _) => yardstick::print(),
-        (_, true) => nameless::print(),
+    match (asked("peer"), asked("nameless"), asked("expiry")) {
+        (true, ..) => yardstick::print(),
+        (_, true, _) => nameless::print(),
+        (.., true) => expiry::print(),
         _ => beside_the_second(),
     }
 }

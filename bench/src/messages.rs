@@ -2,24 +2,43 @@
 //! reply buffer has 128 bytes and is not cleared between messages; each message gets the table that the one before it
 //! left.
 
-use crate::clock::LONG;
+use crate::clock::{LONG, SHORT};
 use crate::inputs::Calls;
 use crate::output;
 use compare::build::{self, Sum};
-use compare::first;
+use compare::first::{self, NO_CLOSINGS};
+use compare::layout::Closings;
 use second::table::Table;
-use second::Node;
+use second::{Clock, Node};
+use std::hint::black_box;
 
 /// A message and the answer that is due to it.
 pub type Due = (Vec<u8>, u8);
 
-/// A row: what it is, its name, the table that it starts from, and the messages that are sent in turns. After the last
-/// of them, the table's calls and connections are those that it started with.
+/// A row: what it is, its name, the table that it starts from, and the messages that are sent in turns, at this time
+/// and with this period. After the last of them, the table's calls and connections are those that it started with;
+/// where they are not, the table is copied in anew before the first.
 pub struct Row {
     pub what: &'static str,
     pub name: String,
     pub table: Table,
     pub messages: Vec<Due>,
+    pub clock: Clock,
+    pub anew: bool,
+}
+
+impl Row {
+    /// One turn of the proved program.
+    pub fn turn(&self, table: &mut Table, reply: &mut [u8; 128], closings: &mut Closings) -> u64 {
+        if self.anew {
+            *table = self.table;
+        }
+        for (message, due) in &self.messages {
+            let done = first::handle(black_box(table), message, reply, self.clock, closings);
+            assert_eq!(done.answer, *due);
+        }
+        u64::from(table.next)
+    }
 }
 
 /// Retry, opening and closing, Path and PathTear, two refusals. A table of no calls has the one that a retry or a Path
@@ -32,6 +51,8 @@ pub fn rows(calls: Calls) -> Vec<Row> {
         name: format!("{name}, {}", calls.name(none)),
         table,
         messages,
+        clock: Clock::ZERO,
+        anew: false,
     };
     let open = calls.open(last);
     let opened_and_closed = vec![(open.clone(), 20), (calls.close(last), 22)];
@@ -80,18 +101,13 @@ pub fn measure(row: &Row) {
     let count = row.messages.len() as f64;
     let (mut one, mut two) = (row.table, row.table);
     let (mut reply, mut other) = ([0; 128], [0; 128]);
-    let mut first = || {
-        for (message, due) in &row.messages {
-            let done = first::handle(&mut one, message, &mut reply);
-            assert_eq!(done.0, *due);
-        }
-        u64::from(one.next)
-    };
+    let mut closings = NO_CLOSINGS;
+    let mut first = || row.turn(&mut one, &mut reply, &mut closings);
     let mut second = || {
         for (message, due) in &row.messages {
-            let done = second::handle(&two, message, &mut other);
-            assert_eq!(done.0, *due);
-            two = done.2;
+            let (done, after) = second::handle(&two, row.clock, message, &mut other);
+            assert_eq!(done.answer, *due);
+            two = after;
         }
         u64::from(two.next)
     };
@@ -107,9 +123,21 @@ fn unchecked(row: &Row) -> f64 {
     let mut run = || {
         let mut lengths = 0;
         for (message, _) in &row.messages {
-            lengths += node.answer(message, &mut reply).1 as u64;
+            lengths += node.answer(row.clock, message, &mut reply).length as u64;
         }
         lengths
     };
     LONG.alone(&mut run)
+}
+
+/// Nanoseconds per message of two rows of the proved program's, which have as many.
+pub fn in_turns(row: &Row, beside: &Row) -> (f64, f64) {
+    let count = row.messages.len() as f64;
+    let (mut table, mut other) = (row.table, beside.table);
+    let (mut reply, mut closings) = ([0; 128], NO_CLOSINGS);
+    let (mut second_reply, mut second_closings) = ([0; 128], NO_CLOSINGS);
+    let mut first = || row.turn(&mut table, &mut reply, &mut closings);
+    let mut second = || beside.turn(&mut other, &mut second_reply, &mut second_closings);
+    let times = SHORT.in_turns(&mut first, &mut second);
+    (times.0 / count, times.1 / count)
 }

@@ -29,6 +29,12 @@ pub fn head_of_nameless() {
     println!("|---|---|---|---|---|---|");
 }
 
+/// Above the rows of the proved program with a period beside itself with period 0.
+pub fn head_of_expiry() {
+    println!("| input | calls | pairs | with a period, ns | period 0, ns | ratio |");
+    println!("|---|---|---|---|---|---|");
+}
+
 /// Nanoseconds of both at a table of so many calls and address pairs.
 pub fn ratio(input: &str, (calls, pairs): (u32, u32), (proved, peer): (f64, f64)) {
     let ratio = proved / peer;

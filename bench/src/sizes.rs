@@ -5,7 +5,7 @@ use crate::inputs::{calls, wide, Calls, Pairs};
 use crate::messages::{self, Row};
 use crate::output;
 use crate::stack;
-use compare::first;
+use compare::first::{self, NO_CLOSINGS};
 use second::table::Table;
 use std::hint::black_box;
 
@@ -40,10 +40,12 @@ fn print_stack(full: Calls) {
 /// The most that one of the row's messages uses.
 pub fn stack_of(row: &Row) -> usize {
     let (mut table, mut most) = (row.table, 0);
+    let mut closings = NO_CLOSINGS;
     for (message, due) in &row.messages {
-        let (mut reply, mut done) = ([0; 128], (0, 0));
-        let used = stack::used(|| done = first::handle(&mut table, message, &mut reply));
-        assert_eq!(done.0, *due);
+        let (mut reply, mut answer) = ([0; 128], 0);
+        let used =
+            stack::used(|| answer = first::handle(&mut table, message, &mut reply, row.clock, &mut closings).answer);
+        assert_eq!(answer, *due);
         most = most.max(used);
     }
     most

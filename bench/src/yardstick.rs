@@ -4,13 +4,15 @@
 
 use crate::chosen::Chosen;
 use crate::clock::SHORT;
+use crate::expiry;
 use crate::inputs::{calls, chosen, wide, Calls, Pairs};
 use crate::messages::{self, Row};
 use crate::output;
 use crate::parts;
 use crate::sizes::stack_of;
-use compare::first;
-use compare::layout::{words, words_mut};
+use compare::first::NO_CLOSINGS;
+use compare::layout::{words, words_mut, SLOTS};
+use second::Clock;
 use std::hint::black_box;
 
 const TABLES: [Calls; 19] = [
@@ -49,6 +51,12 @@ pub fn print() {
         let (times, stack) = table(calls);
         worst = times.iter().fold(worst, |worst, times| worst.max(times.0 / times.1));
         deepest = deepest.max(stack);
+    }
+    for row in expiry::TABLES.into_iter().flat_map(expiry::rows) {
+        let times = handling(&row.row);
+        output::ratio(&row.input(), (row.calls.count, row.calls.pairs()), times);
+        worst = worst.max(times.0 / times.1);
+        deepest = deepest.max(stack_of(&row.row));
     }
     for calls in SLOW {
         let (times, stack) = table(calls);
@@ -92,17 +100,17 @@ fn handling(row: &Row) -> (f64, f64) {
     let count = row.messages.len() as f64;
     let (mut one, mut two) = (row.table, row.table);
     let (mut reply, mut other) = ([0; 128], [0; 128]);
-    let mut proved = || {
-        for (message, due) in &row.messages {
-            let done = first::handle(black_box(&mut one), message, &mut reply);
-            assert_eq!(done.0, *due);
-        }
-        u64::from(one.next)
-    };
+    let (mut closings, mut others) = (NO_CLOSINGS, [[0; 2]; SLOTS]);
+    let Clock { time, period } = row.clock;
+    let mut proved = || row.turn(&mut one, &mut reply, &mut closings);
     let mut peer = || {
+        if row.anew {
+            two = row.table;
+        }
         for (message, due) in &row.messages {
-            let done = peer::handle(words_mut(black_box(&mut two)), message, &mut other);
-            assert_eq!(done.0, *due);
+            let table = words_mut(black_box(&mut two));
+            let done = peer::handle(table, message, &mut other, time, period, &mut others);
+            assert_eq!(done.answer, *due);
         }
         u64::from(two.next)
     };

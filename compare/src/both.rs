@@ -1,12 +1,14 @@
-//! One input through both programs: answer, length, every byte of the buffer, every word of the table. Messages go
-//! through the yardstick as well.
+//! One input through both programs: answer, length, every byte of the buffer, every word of the table, the closings and
+//! the words behind them. Messages go through the yardstick as well, and what is closed before them is found a third
+//! time (`expiry`).
 
 use crate::difference;
+use crate::expiry;
 use crate::first;
-use crate::layout::{words, words_mut, Lent};
+use crate::layout::{words, words_mut, Closings, Lent, LentRow, SLOTS};
 use crate::random::Random;
 use second::table::Table;
-use second::Node;
+use second::{Answered, Clock, Closing, Node};
 use std::panic::{catch_unwind, AssertUnwindSafe};
 
 /// Bytes before and behind the buffer that neither program is handed.
@@ -16,7 +18,11 @@ pub(crate) const GUARD: usize = 32;
 pub struct Done {
     pub answer: u8,
     pub length: usize,
-    /// In boxes, for they are large and are handed on.
+    /// The calls that were closed before it.
+    pub closings: Vec<Closing>,
+    /// The table behind the closings; the one handed in for answers 1 and 2. In boxes, for they are large and are
+    /// handed on.
+    pub behind: Box<Table>,
     pub first: Box<Table>,
     pub second: Box<Table>,
     /// The bytes that the buffer held before, guards included, and those that it holds now.
@@ -32,49 +38,124 @@ impl Done {
 }
 
 /// A message to both programs, each with its own table, both with the same old bytes in the buffer.
-pub fn message(tables: (&Table, &Table), message: &[u8], buffer: usize, random: &mut Random) -> Result<Done, String> {
+pub fn message(
+    tables: (&Table, &Table),
+    message: &[u8],
+    clock: Clock,
+    buffer: usize,
+    random: &mut Random,
+) -> Result<Done, String> {
     let old = random.bytes(buffer + 2 * GUARD);
     let (mut one, mut other) = (old.clone(), old.clone());
     let lent = GUARD..GUARD + buffer;
-    let mut table = Lent::new(tables.0);
-    let first = first::handle(&mut table.table, message, &mut one[lent.clone()]);
-    table.check()?;
+    let any = any_row(random);
+    let (mut table, mut row) = (Lent::new(tables.0), LentRow::new(&any));
+    let first = first::handle(&mut table.table, message, &mut one[lent.clone()], clock, &mut row.row);
+    table.check().and_then(|()| row.check())?;
     let mut after = Box::new(Table::EMPTY);
     let second = AssertUnwindSafe(|| {
-        let (answer, length, table) = second::handle(tables.1, message, &mut other[lent]);
+        let (answered, table) = second::handle(tables.1, clock, message, &mut other[lent]);
         *after = table;
-        (answer, length)
+        answered
     });
-    let second = catch_unwind(second).map_err(|_| format!("answers: first {}, second panics", first.0))?;
-    if first != second {
+    let second = catch_unwind(second).map_err(|_| format!("answers: first {}, second panics", first.answer))?;
+    let Answered {
+        answer,
+        length,
+        closings,
+    } = second;
+    if (first.answer, first.length, first.closed) != (answer, length, closings.len()) {
         return Err(format!(
-            "answers: first {} length {}, second {} length {}",
-            first.0, first.1, second.0, second.1
+            "answers: first {} length {} closed {}, second {answer} length {length} closed {}",
+            first.answer,
+            first.length,
+            first.closed,
+            closings.len()
         ));
     }
-    let answers = format!("answers: both {} length {}", first.0, first.1);
-    same_buffers(&one, &other, &old, first.1).map_err(|what| format!("{answers}; {what}"))?;
-    same_tables(&table.table, &after).map_err(|what| format!("{answers}; {what}"))?;
+    let answers = format!("answers: both {answer} length {length} closed {}", closings.len());
+    let place = |what: String| format!("{answers}; {what}");
+    same_rows(&row.row, &closings, &any).map_err(place)?;
+    same_buffers(&one, &other, &old, length).map_err(place)?;
+    same_tables(&table.table, &after).map_err(place)?;
+    let behind = closed_before(tables.1, clock, answer, &closings).map_err(place)?;
+    expiry::check_change(answer, &behind, &after).map_err(place)?;
     let done = Done {
-        answer: first.0,
-        length: first.1,
+        answer,
+        length,
+        closings,
+        behind,
         first: Box::new(table.table),
         second: after,
         old,
         buffer: one,
     };
-    yardstick(tables.1, message, &done).map_err(|what| format!("{answers}; the peer: {what}"))?;
+    yardstick(tables.1, message, clock, &done).map_err(|what| format!("{answers}; the peer: {what}"))?;
     Ok(done)
 }
 
+/// The table behind the closings, which have to be those that are due: none with answers 1 and 2.
+fn closed_before(table: &Table, clock: Clock, answer: u8, closings: &[Closing]) -> Result<Box<Table>, String> {
+    let is_refused = answer == 1 || answer == 2;
+    let due = match is_refused {
+        true => Vec::new(),
+        false => expiry::closings(table, clock),
+    };
+    if due != closings {
+        return Err(format!("both closed {closings:x?}, {due:x?} being due"));
+    }
+    Ok(Box::new(match is_refused {
+        true => *table,
+        false => expiry::behind(table, clock, &due),
+    }))
+}
+
+/// A row of any words.
+fn any_row(random: &mut Random) -> Closings {
+    let word = random.word();
+    // Every one has others, and none is drawn by itself: there are many.
+    std::array::from_fn(|at| Closing {
+        slot: word.wrapping_mul(2 * at as u32 + 1),
+        address: word.rotate_left(7) ^ at as u32,
+    })
+}
+
+/// The row's front is the closings, and what is behind them is as it was.
+fn same_rows(row: &Closings, closings: &[Closing], old: &Closings) -> Result<(), String> {
+    let (front, rest) = row.split_at(closings.len().min(SLOTS));
+    if front != closings {
+        return Err(format!("closings: first {front:x?}, second {closings:x?}"));
+    }
+    match rest == &old[front.len()..] {
+        true => Ok(()),
+        false => Err("the first wrote behind its closings".into()),
+    }
+}
+
 /// The same message to the benchmark's peer, which has to do the same, so that it is known what is measured.
-fn yardstick(table: &Table, message: &[u8], done: &Done) -> Result<(), String> {
+fn yardstick(table: &Table, message: &[u8], clock: Clock, done: &Done) -> Result<(), String> {
     let (mut table, mut reply) = (*table, done.old.clone());
+    let old = [[0xc0ff_ee11; 2]; SLOTS];
+    let mut row = old;
     let end = reply.len() - GUARD;
-    let answered = AssertUnwindSafe(|| peer::handle(words_mut(&mut table), message, &mut reply[GUARD..end]));
-    let (answer, length) = catch_unwind(answered).map_err(|_| "panics")?;
-    if (answer, length) != (done.answer, done.length) {
-        return Err(format!("{answer} length {length}"));
+    let answered = AssertUnwindSafe(|| {
+        let reply = &mut reply[GUARD..end];
+        peer::handle(
+            words_mut(&mut table),
+            message,
+            reply,
+            clock.time,
+            clock.period,
+            &mut row,
+        )
+    });
+    let peer::Done { answer, length, closed } = catch_unwind(answered).map_err(|_| "panics")?;
+    if (answer, length, closed) != (done.answer, done.length, done.closings.len()) {
+        return Err(format!("{answer} length {length} closed {closed}"));
+    }
+    let front = done.closings.iter().map(|one| [one.slot, one.address]);
+    if !row[..closed].iter().copied().eq(front) || row[closed..] != old[closed..] {
+        return Err(format!("closings {:x?}", &row[..closed]));
     }
     if let Some(found) = difference::of_bytes(&done.buffer, &reply, GUARD) {
         return Err(format!("its buffer, {found}"));
@@ -127,15 +208,15 @@ pub(crate) fn any_table(random: &mut Random) -> Table {
 }
 
 /// The same message to a node of the second program that stands since the stream's start: it has to do the same.
-pub fn lasting(node: &mut Node, message: &[u8], done: &Done) -> Result<(), String> {
+pub fn lasting(node: &mut Node, message: &[u8], clock: Clock, done: &Done) -> Result<(), String> {
     let mut reply = done.old.clone();
     let end = reply.len() - GUARD;
-    let answered = AssertUnwindSafe(|| node.answer(message, &mut reply[GUARD..end]));
+    let answered = AssertUnwindSafe(|| node.answer(clock, message, &mut reply[GUARD..end]));
     let answered = catch_unwind(answered);
-    let (answer, length) = answered.map_err(|_| format!("both {}, the lasting node panics", done.answer))?;
-    if (answer, length) != (done.answer, done.length) {
+    let answered = answered.map_err(|_| format!("both {}, the lasting node panics", done.answer))?;
+    if (answered.answer, answered.length, &answered.closings) != (done.answer, done.length, &done.closings) {
         let both = format!("both {} length {}", done.answer, done.length);
-        return Err(format!("answers: {both}, the lasting node {answer} length {length}"));
+        return Err(format!("answers: {both}, the lasting node {answered:?}"));
     }
     if let Some(found) = difference::of_bytes(&done.buffer, &reply, GUARD) {
         return Err(format!("the lasting node's buffer, {found}"));

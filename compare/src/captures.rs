@@ -1,6 +1,7 @@
 //! Captured messages: a file of lines of name, packet number and hex bytes; `#` starts a comment line.
 
 use crate::both;
+use crate::clock;
 use crate::full::Full;
 use crate::random::Random;
 use crate::tally::Tally;
@@ -23,7 +24,8 @@ pub fn run(text: &str, random: &mut Random, tally: &mut Tally) -> Result<usize, 
         let message = message(line).ok_or_else(|| format!("no captured message: {line}"))?;
         for (state, tables) in states {
             for buffer in [127, 128, 300] {
-                let done = both::message((&tables.first, &tables.second), &message, buffer, random);
+                let clock = clock::any(&tables.first, random);
+                let done = both::message((&tables.first, &tables.second), &message, clock, buffer, random);
                 let done = done.map_err(|what| {
                     format!(
                         "{line}: table {state}, buffer {buffer}: {what}\nmessage {}",

@@ -6,14 +6,18 @@ use crate::random::Random;
 use second::table::{Call, Customer, Place, Table};
 
 pub fn one_field(table: &mut Table, random: &mut Random) {
-    let (customers, calls) = (table.customers, table.calls);
-    match random.below(17) {
+    let (customers, calls, time) = (table.customers, table.calls, table.time);
+    match random.below(18) {
         0 => number(&mut table.listed, &[8, 9], random),
         1 => number(&mut table.epoch, &[1 << 24], random),
         2 => number(&mut table.address, &[], random),
         3 => table.occupied[random.below(8)] ^= 1 << random.below(32),
         4 => number(&mut table.next, &[], random),
         5 => number(&mut table.form, &[1, 2, 3], random),
+        17 => {
+            let refreshed = calls.map(|call| call.refreshed);
+            number(&mut table.time, &refreshed, random);
+        }
         6..=9 => {
             let listed = (table.listed as usize).clamp(1, 8);
             let end = *random.pick(&[listed, 8]);
@@ -23,7 +27,7 @@ pub fn one_field(table: &mut Table, random: &mut Random) {
         _ => {
             let end = *random.pick(&[16, 64, SLOTS]);
             let slot = random.below(end);
-            of_call(&mut table.calls[slot], random.pick(&calls), random);
+            of_call(&mut table.calls[slot], random.pick(&calls), time, random);
         }
     }
 }
@@ -44,14 +48,14 @@ fn of_customer(customer: &mut Customer, other: &Customer, random: &mut Random) {
     }
 }
 
-fn of_call(call: &mut Call, other: &Call, random: &mut Random) {
+fn of_call(call: &mut Call, other: &Call, time: u32, random: &mut Random) {
     match random.below(13) {
         0 => number(&mut call.endpoint, &[other.endpoint], random),
         1 => number(&mut call.sender, &[other.sender], random),
         2 => number(&mut call.id, &[other.id, 1 << 16], random),
         3 => number(&mut call.size, &[other.size, 32, 33], random),
         4 => number(random_byte(&mut call.name, random), &[], random),
-        5 => number(&mut call.refreshed, &[1 << 31], random),
+        5 => number(&mut call.refreshed, &[1 << 31, time, time.saturating_add(1)], random),
         6 => number(&mut call.epoch, &[1 << 24, other.epoch], random),
         7 => number(&mut call.identifier, &[1 << 31, other.identifier], random),
         8 => number(&mut call.made, &[1, 2], random),

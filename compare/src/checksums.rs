@@ -17,7 +17,7 @@ pub fn make_own_ffff(bytes: &mut [u8]) {
 /// The reply's checksum field becomes FFFF: what is added to the SENDER_TEMPLATE is sent back in it.
 pub fn make_reply_ffff(bytes: &mut [u8], table: &Table) {
     let mut reply = [0; 128];
-    let (_, length) = first::handle(&mut table.clone(), bytes, &mut reply);
+    let (_, length) = first::handle_at_0(&mut table.clone(), bytes, &mut reply);
     if length == 0 {
         return;
     }

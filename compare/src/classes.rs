@@ -8,6 +8,7 @@ use crate::full::{send, Tables};
 use crate::random::Random;
 use crate::tally::Tally;
 use crate::trials::hex;
+use second::Clock;
 use std::collections::BTreeSet;
 
 const SENDER: u32 = 0x0a00_0001;
@@ -90,8 +91,9 @@ fn tables(random: &mut Random) -> Result<Tables, String> {
         sender: SENDER,
         lsp: 0,
     };
-    send(&mut tables, &build::open(ENDPOINT, SENDER, OLD.0, OLD.1), 20, random)?;
-    send(&mut tables, &build::path(standalone, 0), 23, random)?;
+    let open = build::open(ENDPOINT, SENDER, OLD.0, OLD.1);
+    send(&mut tables, Clock::ZERO, &open, 20, random)?;
+    send(&mut tables, Clock::ZERO, &build::path(standalone, 0), 23, random)?;
     Ok(tables)
 }
 
@@ -179,7 +181,7 @@ fn everywhere(extra: &Extra, tables: &Tables, random: &mut Random, tally: &mut T
 
 /// Both programs, and the ledger's reader: its fault, 0 where it finds none and the answer is the message's own.
 fn compare(tables: &Tables, message: &[u8], own: u8, random: &mut Random, tally: &mut Tally) -> Result<u8, String> {
-    let done = both::message((&tables.first, &tables.second), message, BUFFER, random)?;
+    let done = both::message((&tables.first, &tables.second), message, Clock::ZERO, BUFFER, random)?;
     let (fault, due) = match form::read(message, BUFFER, &[SENDER]) {
         Form::Fault(fault) => (fault, fault),
         _ => (0, own),
@@ -267,7 +269,7 @@ mod tests {
         for class in [240, 128, 133, 0, 37] {
             stand_in::refuse(class);
             let found = tried(class..=class).unwrap_err();
-            assert!(found.contains("first 8 length 0, second 20 "), "{found}");
+            assert!(found.contains("first 8 length 0 closed 0, second 20 "), "{found}");
         }
     }
 }

@@ -2,6 +2,7 @@
 
 use crate::both::Done;
 use crate::build::D;
+use crate::coverage_expiry;
 use crate::coverage_nameless;
 use crate::form::{self, long_id};
 use crate::layout::SLOTS;
@@ -12,6 +13,7 @@ use crate::source::Made;
 use crate::tables;
 use crate::tally::Tally;
 use second::table::{Customer, Place, Table};
+use second::Clock;
 
 /// How the shares stood at a setup, by the roster's form.
 struct Shares {
@@ -104,7 +106,8 @@ pub fn situations() -> Vec<&'static str> {
     let far = FAR_SLOTS.iter().map(|line| line.1);
     let others = OTHERS.iter().chain(coverage_nameless::SITUATIONS).copied();
     let nearly = made::NEARLY.iter().map(|line| line.0);
-    shares.chain(far).chain(others).chain(nearly).collect()
+    let expiry = coverage_expiry::situations();
+    shares.chain(far).chain(others).chain(nearly).chain(expiry).collect()
 }
 
 const OTHERS: &[&str] = &[
@@ -153,11 +156,16 @@ pub struct Step<'a> {
     /// Of the roster that the stream began with.
     pub form: u8,
     pub shape: Shape,
+    /// The table as it was handed in, and behind the closings (A7).
+    pub found: &'a Table,
     pub before: &'a Table,
     pub made: &'a Made,
     pub buffer: usize,
+    pub clock: Clock,
+    /// The slots that earlier closings freed and that no call has had since.
+    pub freed: &'a [bool; SLOTS],
     pub done: &'a Done,
-    /// What the ledger says, and its calls before; none where the stream has no ledger.
+    /// What the ledger says, and its calls behind the closings; none where the stream has no ledger.
     pub seen: Option<(Seen, usize)>,
 }
 
@@ -177,6 +185,7 @@ pub fn note(step: &Step, tally: &mut Tally) {
         }
     }
     limits(step, tally);
+    coverage_expiry::note(step, tally);
     if step.made.whole {
         far_slot(step, tally);
         coverage_nameless::note(step, tally);

@@ -13,6 +13,7 @@ pub fn of_tables(first: &Table, second: &Table) -> Option<String> {
     differ("address", &first.address, &second.address)
         .or_else(|| differ("epoch", &first.epoch, &second.epoch))
         .or_else(|| differ("next", &first.next, &second.next))
+        .or_else(|| differ("time", &first.time, &second.time))
         .or_else(|| differ("listed", &first.listed, &second.listed))
         .or_else(|| differ("form", &first.form, &second.form))
         .or_else(|| differ("occupied", &first.occupied, &second.occupied))
@@ -88,6 +89,8 @@ mod tests {
         assert_eq!(found, "customers[7].endpoints: first [0, 0, 0, 0], second [0, 0, 1, 0]");
         other.form = 2;
         assert_eq!(of_tables(&EMPTY, &other), Some("form: first 0, second 2".into()));
+        other.time = 7;
+        assert_eq!(of_tables(&EMPTY, &other), Some("time: first 0, second 7".into()));
         other.next = 2;
         assert_eq!(of_tables(&EMPTY, &other), Some("next: first 1, second 2".into()));
     }

@@ -1,13 +1,15 @@
 //! The first program, through its C interface (chaffmoor.h). The structs are those of the second program's
 //! `table` module, so that both programs' tables are of one type and `==` compares them word by word.
 
-use crate::layout::Table;
+use crate::layout::{Closings, Table, SLOTS};
+use second::{Clock, Closing};
 
 /// `chaffmoor_message_reply`.
 #[repr(C)]
 pub(crate) struct MessageReply {
     pub answer: u8,
     pub length: usize,
+    pub closed: usize,
 }
 
 /// `chaffmoor_checkpoint_written`.
@@ -33,6 +35,9 @@ extern "C" {
         message_length: usize,
         reply: *mut u8,
         reply_length: usize,
+        time: u32,
+        period: u32,
+        closings: *mut Closing,
     ) -> MessageReply;
     fn chaffmoor_write_checkpoint(
         table: *const Table,
@@ -55,10 +60,34 @@ pub fn read_roster(table: &mut Table, bytes: &[u8]) -> u8 {
     unsafe { chaffmoor_read_roster(table, bytes.as_ptr(), bytes.len()) }
 }
 
-/// A message's answer and the reply's length (0 where none is sent). The table is changed in place.
-pub fn handle(table: &mut Table, message: &[u8], reply: &mut [u8]) -> (u8, usize) {
+/// What a message gets: its answer, the reply's length (0 where none is sent), and how many closings were written.
+#[derive(Clone, Copy, PartialEq, Eq, Debug)]
+pub struct Replied {
+    pub answer: u8,
+    pub length: usize,
+    pub closed: usize,
+}
+
+/// Closings that nobody has written to.
+pub const NO_CLOSINGS: Closings = [Closing { slot: 0, address: 0 }; SLOTS];
+
+/// Handles a message. The table is changed in place.
+pub fn handle(table: &mut Table, message: &[u8], reply: &mut [u8], clock: Clock, closings: &mut Closings) -> Replied {
+    let (bytes, length) = (message.as_ptr(), message.len());
+    let (buffer, room) = (reply.as_mut_ptr(), reply.len());
+    let (Clock { time, period }, row) = (clock, closings.as_mut_ptr());
     // SAFETY: all pointers are good for their lengths and do not overlap; the library keeps none.
-    let done = unsafe { chaffmoor_handle(table, message.as_ptr(), message.len(), reply.as_mut_ptr(), reply.len()) };
+    let done = unsafe { chaffmoor_handle(table, bytes, length, buffer, room, time, period, row) };
+    Replied {
+        answer: done.answer,
+        length: done.length,
+        closed: done.closed,
+    }
+}
+
+/// The same at time 0 with period 0, which close nothing: answer and length.
+pub fn handle_at_0(table: &mut Table, message: &[u8], reply: &mut [u8]) -> (u8, usize) {
+    let done = handle(table, message, reply, Clock::ZERO, &mut NO_CLOSINGS.clone());
     (done.answer, done.length)
 }
 

@@ -1,5 +1,6 @@
 //! A table at all its limits, reached by messages: 64 calls of eight customers, or 200 in form 2, four connections under
-//! each call and four of Call ID 0 with each customer. Every third call came without names.
+//! each call and four of Call ID 0 with each customer. Every third call came without names. The time goes on from message
+//! to message.
 
 use crate::both;
 use crate::build::{self, Connection};
@@ -8,6 +9,7 @@ use crate::rosters::{self, Shape};
 use crate::trials::hex;
 use crate::values::Values;
 use second::table::Table;
+use second::Clock;
 
 /// Both programs' tables.
 #[derive(Clone, Copy)]
@@ -33,6 +35,9 @@ impl Full {
         let (_, first, second) = both::roster(&roster.bytes(), random)?;
         let fresh = Tables { first, second };
         let mut full = fresh;
+        let began = *random.pick(&[0, 0, 1_000, 1 << 31]);
+        let began = Clock { time: began, period: 0 };
+        send(&mut full, began, &[], 3, random)?;
         for record in &roster.records {
             fill(&mut full, record.address, record.guarantee.into(), random)?;
         }
@@ -58,7 +63,7 @@ fn fill(tables: &mut Tables, sender: u32, calls: u16, random: &mut Random) -> Re
                 0 => build::nameless(ENDPOINT, sender, (9, call.into())),
                 _ => build::open(ENDPOINT, sender, call, name),
             };
-            send(tables, &open, 20, random)?;
+            send(tables, later(tables, random), &open, 20, random)?;
         }
         for lsp in 0..4 {
             let connection = Connection {
@@ -68,15 +73,33 @@ fn fill(tables: &mut Tables, sender: u32, calls: u16, random: &mut Random) -> Re
                 sender,
                 lsp,
             };
-            send(tables, &build::path(connection, call), 23, random)?;
+            send(
+                tables,
+                later(tables, random),
+                &build::path(connection, call),
+                23,
+                random,
+            )?;
         }
     }
     Ok(())
 }
 
+/// The same time or a little later, with no period.
+fn later(tables: &Tables, random: &mut Random) -> Clock {
+    let time = tables.first.time + random.below(3) as u32;
+    Clock { time, period: 0 }
+}
+
 /// A message to both, which has to get this answer.
-pub(crate) fn send(tables: &mut Tables, message: &[u8], due: u8, random: &mut Random) -> Result<(), String> {
-    let done = both::message((&tables.first, &tables.second), message, 128, random);
+pub(crate) fn send(
+    tables: &mut Tables,
+    clock: Clock,
+    message: &[u8],
+    due: u8,
+    random: &mut Random,
+) -> Result<(), String> {
+    let done = both::message((&tables.first, &tables.second), message, clock, 128, random);
     let done = done.map_err(|what| format!("{what}\nmessage {}", hex(message)))?;
     if done.answer != due {
         let message = hex(message);

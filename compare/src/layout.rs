@@ -1,20 +1,21 @@
 //! The table by its words, numbered as the papers number them: which field each word is, and how a table is lent.
 //!
-//! A head of 13 words, then 8 customers of 23 from word 13, then 200 calls of 32 from word 197.
+//! A head of 14 words, then 8 customers of 23 from word 14, then 200 calls of 32 from word 198.
 
 pub use second::table::{Call, Customer, Place, Table};
+pub use second::Closing;
 use std::mem::{align_of, offset_of, size_of};
 
 /// Words of a table.
-pub const WORDS: usize = 6597;
+pub const WORDS: usize = 6598;
 
 pub type Words = [u32; WORDS];
 
 /// Where the occupied bits, the customers and the calls begin, and how many words each of them has.
-const OCCUPIED: usize = 5;
-pub const CUSTOMERS: usize = 13;
+const OCCUPIED: usize = 6;
+pub const CUSTOMERS: usize = 14;
 pub const CUSTOMER: usize = 23;
-pub const CALLS: usize = 197;
+pub const CALLS: usize = 198;
 pub const CALL: usize = 32;
 
 /// Slots of a table, whatever its roster's total.
@@ -37,10 +38,13 @@ const _: () = assert!(offset_of!(Customer, address) == 0 && offset_of!(Customer,
 const _: () = assert!(offset_of!(Customer, limit) == 8 && offset_of!(Customer, endpoints) == 12);
 const _: () = assert!(offset_of!(Customer, places) == 28);
 const _: () = assert!(offset_of!(Table, address) == 0 && offset_of!(Table, epoch) == 4);
-const _: () = assert!(offset_of!(Table, next) == 8 && offset_of!(Table, listed) == 12);
-const _: () = assert!(offset_of!(Table, form) == 16 && offset_of!(Table, occupied) == 4 * OCCUPIED);
+const _: () = assert!(offset_of!(Table, next) == 8 && offset_of!(Table, time) == 12);
+const _: () = assert!(offset_of!(Table, listed) == 16 && offset_of!(Table, form) == 20);
+const _: () = assert!(offset_of!(Table, occupied) == 4 * OCCUPIED);
 const _: () = assert!(offset_of!(Table, customers) == 4 * CUSTOMERS && offset_of!(Table, calls) == 4 * CALLS);
 const _: () = assert!(CALLS + CALL * SLOTS == WORDS);
+const _: () = assert!(size_of::<Closing>() == 8 && align_of::<Closing>() == 4);
+const _: () = assert!(offset_of!(Closing, slot) == 0 && offset_of!(Closing, address) == 4);
 
 /// Which field a word is. Numbers of customers, slots and places are from 0.
 #[derive(Clone, Copy, PartialEq, Eq, Debug)]
@@ -48,6 +52,7 @@ pub enum Field {
     Address,
     Epoch,
     Next,
+    Time,
     Listed,
     Form,
     /// 32 of the bits.
@@ -94,8 +99,9 @@ pub fn field(word: usize) -> Field {
         0 => Field::Address,
         1 => Field::Epoch,
         2 => Field::Next,
-        3 => Field::Listed,
-        4 => Field::Form,
+        3 => Field::Time,
+        4 => Field::Listed,
+        5 => Field::Form,
         OCCUPIED..CUSTOMERS => Field::Occupied(word - OCCUPIED),
         CUSTOMERS..CALLS => {
             let at = word - CUSTOMERS;
@@ -183,6 +189,38 @@ impl Lent {
     }
 }
 
+/// A row of closings, one for each slot.
+pub type Closings = [Closing; SLOTS];
+
+/// A row as it is lent: no better aligned than it has to be, with words before and behind it that stay. It holds any
+/// words before.
+#[repr(C, align(16))]
+pub struct LentRow {
+    before: [u32; 9],
+    pub row: Closings,
+    behind: [u32; 9],
+}
+
+const _: () = assert!(offset_of!(LentRow, row) % 16 == 4);
+
+impl LentRow {
+    pub fn new(row: &Closings) -> LentRow {
+        LentRow {
+            before: [GUARD; 9],
+            row: *row,
+            behind: [GUARD; 9],
+        }
+    }
+
+    /// Nothing was written before or behind the row.
+    pub fn check(&self) -> Result<(), String> {
+        match [self.before, self.behind] == [[GUARD; 9]; 2] {
+            true => Ok(()),
+            false => Err("the first wrote before or behind the closings".into()),
+        }
+    }
+}
+
 #[cfg(test)]
 mod tests {
     use super::*;
@@ -204,6 +242,7 @@ mod tests {
                 Field::Address => table.address,
                 Field::Epoch => table.epoch,
                 Field::Next => table.next,
+                Field::Time => table.time,
                 Field::Listed => table.listed,
                 Field::Form => table.form,
                 Field::Occupied(part) => table.occupied[part],
@@ -245,15 +284,15 @@ mod tests {
     #[test]
     fn numbers_of_the_papers() {
         assert_eq!(
-            (field(4), field(5), field(12)),
-            (Field::Form, Field::Occupied(0), Field::Occupied(7))
+            (field(3), field(5), field(6), field(13)),
+            (Field::Time, Field::Form, Field::Occupied(0), Field::Occupied(7))
         );
-        assert_eq!(field(13 + 23 * 7 + 3), Field::Customer(7, OfCustomer::EndPoint(0)));
+        assert_eq!(field(14 + 23 * 7 + 3), Field::Customer(7, OfCustomer::EndPoint(0)));
         assert_eq!(
-            field(13 + 23 * 7 + 22),
+            field(14 + 23 * 7 + 22),
             Field::Customer(7, OfCustomer::Place(3, OfPlace::Lsp))
         );
-        assert_eq!(field(197), Field::Call(0, OfCall::EndPoint));
+        assert_eq!(field(198), Field::Call(0, OfCall::EndPoint));
         assert_eq!(field(WORDS - 1), Field::Call(199, OfCall::Place(3, OfPlace::Lsp)));
     }
 }

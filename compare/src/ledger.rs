@@ -1,16 +1,20 @@
-//! The ledger behind demand 3 (01), a third time. It is fed the roster's bytes and each message with its answer and
-//! its buffer's length, never the table, and says which sentence of demand 3 does not hold. The IDs of a call that came
-//! without names it makes from its own entries (A6).
+//! The ledger behind demand 3 (01), a third time. It is fed the roster's bytes and each message with its answer, the
+//! calls closed before it and what else the caller hands in, never the table, and says which sentence of demand 3 does
+//! not hold. The IDs of a call that came without names it makes from its own entries (A6). Whether a call was due to be
+//! closed it does not judge: it knows no connections (A7).
 
 use crate::form::{self, Form, Request};
 use crate::made::{self, Ids};
+use second::{Clock, Closing};
 
 struct Customer {
     address: u32,
     guarantee: usize,
     limit: usize,
     opened: usize,
+    /// By 22, and before a message (A7).
     closed: usize,
+    lapsed: usize,
 }
 
 struct Entry {
@@ -20,6 +24,8 @@ struct Entry {
     long: Vec<u8>,
     /// The two numbers of the nameless request that made it.
     made_by: Option<(u32, u32)>,
+    /// The lowest that no other entry had when it was added (A7), or the one that it was restored in.
+    slot: u32,
     /// For the situations only, nothing is due by them: the Name Length and the two numbers that it was opened with.
     size: usize,
     numbers: (u32, u32),
@@ -27,10 +33,22 @@ struct Entry {
 
 /// A call that a checkpoint's reading restored.
 pub struct Restored {
+    pub slot: u32,
+    /// The ledger has no use for it.
+    pub refreshed: u32,
     pub endpoint: u32,
     pub sender: u32,
     pub ids: Ids,
     pub made_by: Option<(u32, u32)>,
+}
+
+/// What the ledger is fed of a message.
+pub struct Fed<'a> {
+    pub message: &'a [u8],
+    pub buffer: usize,
+    pub clock: Clock,
+    pub answer: u8,
+    pub closings: &'a [Closing],
 }
 
 pub struct Ledger {
@@ -54,6 +72,8 @@ pub struct Seen {
     pub at_limit: bool,
     /// No room was left.
     pub no_room: bool,
+    /// A setup due 20 or 21: the slot of its call.
+    pub slot: Option<u32>,
     /// A Notify of no fault of form whose long ID the pair has open: the Name Lengths of that open and of this one.
     pub sizes: Option<(usize, usize)>,
     /// A nameless setup: the IDs that its reply carries. They are its call's, and empty where 34 is due.
@@ -71,6 +91,7 @@ const NOTHING: Seen = Seen {
     below: false,
     at_limit: false,
     no_room: false,
+    slot: None,
     sizes: None,
     ids: None,
     named_before: false,
@@ -87,14 +108,16 @@ impl Customer {
             limit: one.limit,
             opened: 0,
             closed: 0,
+            lapsed: 0,
         }
     }
 }
 
 impl Entry {
     /// The entry of a setup that names its call.
-    fn named(request: &Request) -> Entry {
+    fn named(request: &Request, slot: u32) -> Entry {
         Entry {
+            slot,
             endpoint: request.endpoint,
             sender: request.sender,
             short: request.short,
@@ -106,18 +129,19 @@ impl Entry {
     }
 
     /// The entry of a nameless one, whose IDs were made.
-    fn made(request: &Request, ids: Ids) -> Entry {
+    fn made(request: &Request, slot: u32, ids: Ids) -> Entry {
         Entry {
             size: ids.long.len(),
             short: ids.short,
             long: ids.long,
             made_by: Some(request.numbers),
-            ..Entry::named(request)
+            ..Entry::named(request, slot)
         }
     }
 
     fn restored(call: Restored) -> Entry {
         Entry {
+            slot: call.slot,
             endpoint: call.endpoint,
             sender: call.sender,
             size: call.ids.long.len(),
@@ -172,19 +196,54 @@ impl Ledger {
         ledger
     }
 
-    /// Takes in a message and its answer, and checks what demand 3 says of them.
-    pub fn feed(&mut self, message: &[u8], buffer: usize, answer: u8) -> Result<Seen, String> {
+    /// Takes in a message and its answer, and checks what demand 3 says of them. The closings come first.
+    pub fn feed(&mut self, fed: &Fed) -> Result<Seen, String> {
+        let answer = fed.answer;
         if answer == 1 {
             return Err("answer 1 to a table that only the program changed".into());
         }
-        let form = form::read(message, buffer, &self.addresses);
+        self.drop_closed(fed)?;
+        let form = form::read(fed.message, fed.buffer, &self.addresses);
         let mut seen = self.check_setup(&form, answer)?;
         if let Form::Notify(request) = &form {
             seen.sizes = self.sizes(request);
         }
-        self.book(&form, answer, seen.ids.clone())?;
+        self.book(&form, answer, &seen)?;
         self.check_counts()?;
         Ok(seen)
+    }
+
+    /// Drops the entries whose slots are listed. Each slot is that of one entry, whose sender is the address beside it;
+    /// slots rise; none is listed with answer 2, or with a period of 0.
+    fn drop_closed(&mut self, fed: &Fed) -> Result<(), String> {
+        let closings = fed.closings;
+        if !closings.is_empty() && (fed.answer == 2 || fed.clock.period == 0) {
+            return Err(format!("closings with answer {}, {:?}", fed.answer, fed.clock));
+        }
+        if closings.windows(2).any(|two| two[0].slot >= two[1].slot) {
+            return Err("closings whose slots do not rise".into());
+        }
+        for closing in closings {
+            let of_slot: Vec<&Entry> = self.entries.iter().filter(|one| one.slot == closing.slot).collect();
+            let [entry] = of_slot[..] else {
+                return Err(format!("{closing:x?}: {} entries have that slot", of_slot.len()));
+            };
+            if entry.sender != closing.address {
+                return Err(format!("{closing:x?}: the sender is {:x}", entry.sender));
+            }
+            let gone = entry.made_by.map(|numbers| (entry.endpoint, entry.sender, numbers));
+            self.gone.extend(gone);
+            self.entries.retain(|one| one.slot != closing.slot);
+            let customer = self.customers.iter_mut().find(|one| one.address == closing.address);
+            customer.ok_or("a call of a sender that is not listed")?.lapsed += 1;
+        }
+        Ok(())
+    }
+
+    /// The lowest slot that no entry has.
+    fn lowest_free(&self) -> u32 {
+        let is_free = |slot: &u32| self.entries.iter().all(|entry| entry.slot != *slot);
+        (0..).find(is_free).expect("few are in use")
     }
 
     /// A fault of form is answered by its number, a setup without one by what is due.
@@ -229,8 +288,15 @@ impl Ledger {
         } else {
             34
         };
+        let open = self.entries.iter().find(|entry| entry.is_call(setup));
+        let slot = match due {
+            20 => Some(self.lowest_free()),
+            21 => open.map(|entry| entry.slot),
+            _ => None,
+        };
         Seen {
             due: Some(due),
+            slot,
             below,
             at_limit,
             no_room,
@@ -276,8 +342,8 @@ impl Ledger {
         ids.into_iter().find(is_unused).expect("few are in use")
     }
 
-    /// 20 adds an entry, with these IDs if they were made; 22 takes one out.
-    fn book(&mut self, form: &Form, answer: u8, ids: Option<Ids>) -> Result<(), String> {
+    /// 20 adds an entry, with the IDs seen if they were made; 22 takes one out.
+    fn book(&mut self, form: &Form, answer: u8, seen: &Seen) -> Result<(), String> {
         if answer != 20 && answer != 22 {
             return Ok(());
         }
@@ -288,9 +354,10 @@ impl Ledger {
         let customer = customer.ok_or("a call of a sender that is not listed")?;
         if answer == 20 {
             customer.opened += 1;
-            self.entries.push(match ids {
-                Some(ids) => Entry::made(request, ids),
-                None => Entry::named(request),
+            let slot = seen.slot.ok_or("a call that was not due")?;
+            self.entries.push(match seen.ids.clone() {
+                Some(ids) => Entry::made(request, slot, ids),
+                None => Entry::named(request, slot),
             });
         } else {
             customer.closed += 1;
@@ -306,8 +373,8 @@ impl Ledger {
     fn check_counts(&self) -> Result<(), String> {
         for customer in &self.customers {
             let (count, address) = (self.count(customer.address), customer.address);
-            if customer.opened != count + customer.closed {
-                return Err(format!("{address:08x}: opened is not count plus closed"));
+            if customer.opened != count + customer.closed + customer.lapsed {
+                return Err(format!("{address:08x}: opened is not count plus closed and lapsed"));
             }
             if count > customer.limit {
                 return Err(format!("{address:08x}: count {count} above the limit"));
@@ -367,7 +434,103 @@ mod tests {
 
     /// Feeds it and says whether it was content.
     fn feeds(ledger: &mut Ledger, message: &[u8], answer: u8) -> bool {
-        ledger.feed(message, 128, answer).is_ok()
+        fed(ledger, message, answer).is_ok()
+    }
+
+    fn fed(ledger: &mut Ledger, message: &[u8], answer: u8) -> Result<Seen, String> {
+        ledger.feed(&with(&[], message, answer))
+    }
+
+    /// What it is fed, with a buffer that is enough.
+    fn with<'a>(closings: &'a [Closing], message: &'a [u8], answer: u8) -> Fed<'a> {
+        Fed {
+            message,
+            buffer: 128,
+            clock: Clock { time: 9, period: 1 },
+            answer,
+            closings,
+        }
+    }
+
+    /// Feeds it a cut message, which is refused 3, behind closings by slot and address.
+    fn lapses(ledger: &mut Ledger, closings: &[(u32, u32)]) -> bool {
+        let closings = closings.iter().map(|&(slot, address)| Closing { slot, address });
+        let closings: Vec<Closing> = closings.collect();
+        ledger.feed(&with(&closings, &[], 3)).is_ok()
+    }
+
+    /// X has calls in slots 0 and 1, Y in 2.
+    fn three() -> Ledger {
+        let mut ledger = two();
+        assert!(feeds(&mut ledger, &open(9, X, 1, b"a"), 20));
+        assert!(feeds(&mut ledger, &open(9, X, 2, b"b"), 20));
+        assert!(feeds(&mut ledger, &nameless(9, Y, (3, 4)), 20));
+        ledger
+    }
+
+    /// A7: each slot listed is that of one entry, of the customer listed; slots rise.
+    #[test]
+    fn closings_by_slot() {
+        assert!(lapses(&mut three(), &[(0, X), (1, X), (2, Y)]));
+        assert!(lapses(&mut three(), &[(1, X)]));
+        for wrong in [
+            &[(3, Y)][..],
+            &[(1, Y)],
+            &[(2, X)],
+            &[(1, X), (0, X)],
+            &[(0, X), (0, X)],
+        ] {
+            assert!(!lapses(&mut three(), wrong), "{wrong:x?}");
+        }
+        // Once only.
+        let mut ledger = three();
+        assert!(lapses(&mut ledger, &[(0, X)]) && !lapses(&mut ledger, &[(0, X)]));
+    }
+
+    #[test]
+    fn no_closings_with_answer_2_or_period_0() {
+        let closings = [Closing { slot: 0, address: X }];
+        let cut = with(&closings, &[], 3);
+        assert!(three()
+            .feed(&Fed {
+                clock: Clock::ZERO,
+                ..cut
+            })
+            .is_err());
+        let (cut, short) = (with(&closings, &[], 2), with(&[], &[], 2));
+        assert!(three().feed(&Fed { buffer: 127, ..cut }).is_err());
+        assert!(three().feed(&Fed { buffer: 127, ..short }).is_ok());
+    }
+
+    /// The message is looked at behind the closings: IDs, share, slots.
+    #[test]
+    fn closings_come_first() {
+        let closings = [Closing { slot: 0, address: X }];
+        for (message, before, due) in [
+            (open(9, X, 1, b"a"), 21, 20),
+            (open(9, X, 1, b"c"), 30, 20),
+            (open(9, X, 3, b"a"), 31, 20),
+            (open(9, X, 3, b"c"), 34, 20),
+            (open(9, X, 2, b"b"), 21, 21),
+        ] {
+            assert!(feeds(&mut three(), &message, before));
+            for answer in [20, 21, 30, 31, 34] {
+                let seen = three().feed(&with(&closings, &message, answer));
+                assert_eq!(seen.is_ok(), answer == due);
+                assert!(seen.is_err() || seen.map(|seen| seen.slot) == Ok(Some((due == 21).into())));
+            }
+        }
+        // The lowest free slot is taken again; a close of what lapsed is not due.
+        let mut ledger = three();
+        assert!(lapses(&mut ledger, &[(1, X)]));
+        assert!(!feeds(&mut ledger, &close(9, X, 2, b"b"), 22));
+        let mut ledger = three();
+        assert!(lapses(&mut ledger, &[(1, X), (2, Y)]));
+        assert_eq!(
+            fed(&mut ledger, &nameless(9, Y, (3, 4)), 20).map(|seen| seen.slot),
+            Ok(Some(1))
+        );
+        assert!(lapses(&mut ledger, &[(0, X), (1, Y)]) && ledger.calls() == 0);
     }
 
     /// Only the one answer that is due passes, in every state of 01's example.
@@ -446,7 +609,7 @@ mod tests {
             assert!(feeds(&mut ledger, &open(9, X, 2, name), 20));
             assert!(feeds(&mut ledger, &close(9, X, 2, &[name, b"\0"].concat()), 22));
         }
-        let seen = ledger.feed(&open(9, X, 1, b"a"), 128, 21);
+        let seen = fed(&mut ledger, &open(9, X, 1, b"a"), 21);
         assert_eq!(seen.map(|seen| seen.sizes), Ok(Some((3, 1))));
         assert!(feeds(&mut ledger, &close(9, X, 1, b"a\0"), 22) && ledger.calls() == 0);
     }
@@ -455,7 +618,7 @@ mod tests {
     fn setups_without_names() {
         let mut ledger = two_of(2, 100, 200);
         let mut made = |message: &[u8], answer: u8| {
-            let seen = ledger.feed(message, 128, answer).expect("what is due");
+            let seen = fed(&mut ledger, message, answer).expect("what is due");
             seen.ids.map(|ids| (ids.short, ids.long))
         };
         let one = b"0a000003000000090001".to_vec();
@@ -498,7 +661,9 @@ mod tests {
                 spare: 0,
             }],
         };
-        let call = |short, long: &[u8], made_by| Restored {
+        let call = |short: u16, long: &[u8], made_by| Restored {
+            slot: short.into(),
+            refreshed: 0,
             endpoint: 9,
             sender: X,
             ids: Ids {
@@ -509,7 +674,7 @@ mod tests {
         };
         let calls = [call(7, b"n", Some((1, 2))), call(1, b"m", None)];
         let mut ledger = Ledger::restored(&roster.bytes(), calls);
-        let seen = ledger.feed(&nameless(9, X, (1, 2)), 128, 21).expect("what is due");
+        let seen = fed(&mut ledger, &nameless(9, X, (1, 2)), 21).expect("what is due");
         let long = b"n".to_vec();
         assert_eq!(seen.ids, Some(Ids { short: 7, long }));
         assert!(feeds(&mut ledger, &nameless(9, X, (0, 0)), 34));
@@ -532,7 +697,10 @@ mod tests {
     #[test]
     fn faults_of_form() {
         let setup = open(9, X, 1, b"a");
-        assert!(two().feed(&setup, 127, 2).is_ok() && two().feed(&setup, 127, 20).is_err());
+        for (answer, passes) in [(2, true), (20, false)] {
+            let fed = with(&[], &setup, answer);
+            assert_eq!(two().feed(&Fed { buffer: 127, ..fed }).is_ok(), passes);
+        }
         assert!(feeds(&mut two(), &open(9, 5, 1, b"a"), 11));
         assert!(feeds(&mut two(), &open(9, X, 0, b"a"), 13));
         assert!(feeds(&mut two(), &open(9, X, 1, &[b'n'; 33]), 13));

@@ -6,6 +6,7 @@ use crate::breaks::Break;
 use crate::form;
 use crate::layout::SLOTS;
 use crate::near_made;
+use crate::near_refreshed;
 use crate::random::Random;
 use crate::tables::{self, EMPTY, FREE_CALL};
 use second::table::{Place, Table};
@@ -52,7 +53,8 @@ const NEAR_MISSES: &[(&str, Break)] = &[
 
 /// Every near miss, with its name.
 pub fn all() -> impl Iterator<Item = &'static (&'static str, Break)> {
-    NEAR_MISSES.iter().chain(near_made::NEAR_MISSES)
+    let later = near_made::NEAR_MISSES.iter().chain(near_refreshed::NEAR_MISSES);
+    NEAR_MISSES.iter().chain(later)
 }
 
 /// The second call gets the first one's IDs, at an end point that no call has.

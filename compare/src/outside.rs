@@ -51,7 +51,8 @@ pub const REFUSED: &[&str] = &[
     "word: occupied bits outside the total",
     "word: guarantee above the limit",
     "word: limit 0 or above the total",
-    "word: call's last refresh",
+    "word: time before a call's refresh",
+    "word: call's refresh after the time",
     "word: unmarked call's request epoch",
     "word: unmarked call's request identifier",
     "word: made call's request epoch above 24 bits",
@@ -83,6 +84,8 @@ pub const KEPT: &[&str] = &[
     "word: any own address",
     "word: any own epoch of 24 bits",
     "word: any next identifier",
+    "word: any time from the latest refresh on",
+    "word: any refresh up to the time",
 ];
 
 /// What is due to a table with one word changed.
@@ -181,6 +184,8 @@ fn due(table: &Table, word: usize, value: u32) -> Due {
         Field::Address => Kept("word: any own address"),
         Field::Epoch => Kept("word: any own epoch of 24 bits"),
         Field::Next => Kept("word: any next identifier"),
+        Field::Time if value < latest(table) => Refused("word: time before a call's refresh"),
+        Field::Time => Kept("word: any time from the latest refresh on"),
         Field::Listed => when(value > 8, "word: listed above 8"),
         Field::Form if empty => Refused("word: form of the empty table"),
         Field::Form => when(value == 0 || value > 2, "word: form 0 or above 2"),
@@ -192,6 +197,11 @@ fn due(table: &Table, word: usize, value: u32) -> Due {
         Field::Call(slot, _) if !is_used(table, slot) => Refused("word: free slot not zeros"),
         Field::Call(slot, of) => due_of_call(table, slot, of, value),
     }
+}
+
+/// The latest refresh; free slots hold 0.
+fn latest(table: &Table) -> u32 {
+    table.calls.iter().map(|call| call.refreshed).max().unwrap_or(0)
 }
 
 fn due_of_customer(table: &Table, customer: usize, of: OfCustomer, value: u32) -> Due {
@@ -219,8 +229,8 @@ fn due_of_call(table: &Table, slot: usize, of: OfCall, value: u32) -> Due {
     let call = &table.calls[slot];
     match of {
         OfCall::EndPoint | OfCall::Sender => Open,
-        // It is zero, and the value is another.
-        OfCall::Refreshed => Refused("word: call's last refresh"),
+        OfCall::Refreshed if value > table.time => Refused("word: call's refresh after the time"),
+        OfCall::Refreshed => Kept("word: any refresh up to the time"),
         OfCall::Epoch | OfCall::Identifier | OfCall::Made => due_of_request(call, of, value),
         OfCall::Id => when(value == 0 || value > 65_535, "word: call's short ID 0 or above 65,535"),
         OfCall::Size if value == 0 || value > 32 => Refused("word: call's name size 0 or above 32"),
@@ -285,8 +295,9 @@ mod tests {
         for changed in every_word(&EMPTY, 0) {
             match changed.word {
                 2 => assert_eq!(changed.due, Kept("word: any next identifier")),
+                3 => assert_eq!(changed.due, Kept("word: any time from the latest refresh on")),
                 // None of the records listed would have a limit.
-                3 => assert_ne!(changed.due, Kept("word: any own address")),
+                4 => assert_ne!(changed.due, Kept("word: any own address")),
                 _ => assert!(matches!(changed.due, Refused(_)), "word {}", changed.word),
             }
         }
@@ -311,7 +322,7 @@ mod tests {
     #[test]
     fn every_reason_is_announced() {
         let mut table = EMPTY;
-        (table.listed, table.form) = (7, 2);
+        (table.time, table.listed, table.form) = (9, 7, 2);
         table.customers[0].limit = 64;
         table.customers[0].places[1] = Place {
             taken: 1,
@@ -320,7 +331,7 @@ mod tests {
             lsp: 1,
         };
         for call in &mut table.calls[..2] {
-            (call.size, call.name[4]) = (5, 1);
+            (call.size, call.name[4], call.refreshed) = (5, 1, 9);
         }
         table.calls[0].places[2] = table.customers[0].places[1];
         (table.calls[1].made, table.calls[1].epoch) = (1, 7);

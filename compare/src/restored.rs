@@ -1,8 +1,8 @@
-//! Checkpoints that streams start from (A13, A6): made calls of any names and numbers, and pairs with as many calls as
-//! they can have.
+//! Checkpoints that streams start from (A13, A6, A7): made calls of any names and numbers, pairs with as many calls as
+//! they can have, and calls that were refreshed at different times, with and without connections.
 
 use crate::build::Roster;
-use crate::checkpoints::parts::{set, Call, Parts, CALL, ENDPOINT, EPOCH, ID, IDENTIFIER, NAME, SENDER, SIZE, SLOT};
+use crate::checkpoints::parts::*;
 use crate::made;
 use crate::random::Random;
 use crate::values::Values;
@@ -30,6 +30,57 @@ pub fn some_calls(roster: &Roster, values: &Values, random: &mut Random) -> Part
     Parts {
         calls: calls.collect(),
         connections: Vec::new(),
+    }
+}
+
+/// A7: as many calls of the stream's pairs as there are slots, a part of them with connections, and connections of Call
+/// ID 0. Some meet, and salvage drops them.
+pub fn aged_calls(roster: &Roster, values: &Values, random: &mut Random) -> Parts {
+    let slots = slots(roster, roster.total(), random);
+    let calls = slots.into_iter().map(|slot| some_call(slot, values, random));
+    let mut parts = Parts {
+        calls: calls.collect(),
+        connections: Vec::new(),
+    };
+    for call in &parts.calls {
+        if random.chance(1, 4) {
+            let count = *random.pick(&[1, 1, 1, 2, 4]);
+            let id = get(call, ID);
+            let under = (0..count).map(|_| connection(pair(call), id, random));
+            parts.connections.extend(under);
+        }
+    }
+    for &sender in &values.senders {
+        let endpoint = *random.pick(&values.endpoints);
+        parts.connections.push(connection((endpoint, sender), 0, random));
+    }
+    refresh(&mut parts, random);
+    parts
+}
+
+fn connection((endpoint, sender): (u32, u32), id: u32, random: &mut Random) -> Connection {
+    let mut connection = [0; CONNECTION];
+    set(&mut connection, UNDER_ENDPOINT, endpoint);
+    set(&mut connection, UNDER_ID, id);
+    set(&mut connection, UNDER_TUNNEL, random.half().into());
+    set(&mut connection, UNDER_EXTENDED, random.word());
+    set(&mut connection, UNDER_SENDER, sender);
+    set(&mut connection, UNDER_LSP, random.half().into());
+    connection
+}
+
+/// A7: refreshes from some time on: a second apart, close together, far apart, or all at once; in any order.
+pub fn refresh(parts: &mut Parts, random: &mut Random) {
+    let count = parts.calls.len();
+    let began = *random.pick(&[0, 0, 1, 100, 1_000_000, 1 << 31, 0xff00_0000]);
+    let apart = *random.pick(&[0, 1, 1, 2, 7, 500, 10_000]);
+    let mut order: Vec<u32> = (0..count as u32).collect();
+    if random.chance(3, 4) {
+        random.shuffle(&mut order);
+    }
+    for (call, number) in parts.calls.iter_mut().zip(order) {
+        let off = random.below(apart as usize + 1) as u32;
+        set(call, REFRESHED, began + apart * number + off);
     }
 }
 

@@ -26,6 +26,13 @@ const WORD_STREAMS: u64 = 1 << 32;
 const CROWD_STREAMS: u64 = 2 << 32;
 const CROWDS: u64 = 360;
 
+/// Numbers of the streams whose calls go one after another, or all at once (A7), and how many there are, by turns of both
+/// forms.
+const AGED_STREAMS: u64 = 3 << 32;
+const AGED: u64 = 440;
+const SWEPT_STREAMS: u64 = 4 << 32;
+const SWEPT: u64 = 1000;
+
 /// How many full tables, by turns of form 1 and 2, are broken in every way.
 const FULL_TABLES: usize = 120;
 
@@ -35,6 +42,7 @@ pub fn all(seed: u64, messages: u64, captured: Option<&str>) -> Result<Tally, St
     rosters(seed, &mut random, &mut tally)?;
     streams(seed, messages, &mut tally)?;
     crowds(seed, &mut tally)?;
+    expiring(seed, &mut tally)?;
     classes::run(0..=u8::MAX, &mut Random::of_part(seed, u64::MAX - 1), &mut tally)
         .map_err(|what| format!("seed {seed}, {what}"))?;
     full_tables(seed, &mut random, &mut tally)?;
@@ -114,7 +122,9 @@ fn every_word(seed: u64, random: &mut Random, tally: &mut Tally) -> Result<(), S
 fn words_of(seed: u64, messages: u64, wanted: impl Fn(&Table) -> bool, tally: &mut Tally) -> Result<(), String> {
     for number in WORD_STREAMS.. {
         let mut stream = Stream::new(seed, number, tally)?;
-        stream.run(messages, tally)?;
+        if messages > 0 {
+            stream.run(messages, tally)?;
+        }
         if wanted(stream.table()) {
             return stream.try_every_word(tally);
         }
@@ -140,6 +150,22 @@ fn crowds(seed: u64, tally: &mut Tally) -> Result<(), String> {
     for number in 0..CROWDS {
         let mut stream = Stream::crowded(seed, CROWD_STREAMS + number, tally)?;
         stream.run(Stream::CROWDED, tally)?;
+    }
+    Ok(())
+}
+
+/// Calls that nobody refreshes (A7).
+fn expiring(seed: u64, tally: &mut Tally) -> Result<(), String> {
+    for number in 0..AGED {
+        let mut stream = Stream::aged(seed, AGED_STREAMS + number, tally)?;
+        match number % 6 {
+            0 => stream.run(Stream::AGED, tally)?,
+            _ => stream.run_messages(Stream::AGED, tally)?,
+        }
+    }
+    for number in 0..SWEPT {
+        let mut stream = Stream::swept(seed, SWEPT_STREAMS + number, tally)?;
+        stream.run_messages(Stream::SWEPT, tally)?;
     }
     Ok(())
 }

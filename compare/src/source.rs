@@ -1,14 +1,15 @@
 //! The source of a stream's messages and buffer lengths.
 
-use crate::build::{self, Fields, Sum, NOTIFY};
+use crate::build::{self, Fields, Sum, C, D, NOTIFY, PATH, R};
 use crate::checksums;
 use crate::damage;
 use crate::encode;
 use crate::intent::{self, Intent, Mode};
 use crate::random::Random;
+use crate::tables;
 use crate::tally::Tally;
 use crate::values::Values;
-use second::table::Table;
+use second::table::{Call, Table};
 
 /// A message and what it was made of.
 #[derive(Clone)]
@@ -19,6 +20,8 @@ pub struct Made {
     pub whole: bool,
     /// It is the message before it once more.
     pub again: bool,
+    /// It is about the call whose last connection the message before it removed (A7).
+    pub torn: bool,
 }
 
 /// A nameless request of these fields' pair (A6), with any numbers.
@@ -30,12 +33,45 @@ pub fn nameless(fields: &Fields, random: &mut Random) -> Made {
         ..fields.clone()
     };
     fields.name.clear();
+    whole(NOTIFY, fields, random)
+}
+
+/// A message of these fields, nothing of it damaged.
+fn whole(kind: u8, fields: Fields, random: &mut Random) -> Made {
     Made {
-        bytes: encode::message(NOTIFY, fields.clone(), random),
+        bytes: encode::message(kind, fields.clone(), random),
         fields,
         whole: true,
         again: false,
+        torn: false,
     }
+}
+
+/// A message about a call that may be closed before it (A7): its retry, a setup with one of its IDs, its close, or a Path
+/// under it.
+pub fn about(call: &Call, random: &mut Random) -> Made {
+    let mut fields = Fields {
+        endpoint: call.endpoint,
+        sender: call.sender,
+        call: call.id as u16,
+        tunnel: random.half(),
+        extended: random.word(),
+        lsp: random.half(),
+        name: tables::name(call).to_vec(),
+        epoch: call.epoch,
+        identifier: call.identifier,
+        status: R | C,
+        ..Fields::default()
+    };
+    match random.below(8) {
+        0 | 1 => return whole(PATH, fields, random),
+        2 | 3 => fields.status |= D,
+        4 => fields.call = 1 + (random.half() >> 1),
+        5 => fields.name = random.long_id(12),
+        6 if call.made == 1 => (fields.call, fields.name) = (0, Vec::new()),
+        _ => {}
+    }
+    whole(NOTIFY, fields, random)
 }
 
 /// A message for the table as it stands. `trouble`: how many of a hundred are faulty or damaged.
@@ -58,6 +94,7 @@ pub fn message(
             fields,
             whole: false,
             again: false,
+            torn: false,
         };
     }
     let (fault, damage) = *random.pick(&[(true, false), (false, true), (true, true)]);
@@ -77,6 +114,7 @@ pub fn message(
         fields,
         whole: !damaged,
         again: false,
+        torn: false,
     }
 }
 

@@ -4,6 +4,7 @@
 use crate::damage;
 use crate::first::{CheckpointRead, CheckpointWritten, MessageReply};
 use second::table::Table;
+use second::{Clock, Closing};
 #[cfg(test)]
 use std::cell::Cell;
 use std::slice;
@@ -44,7 +45,7 @@ unsafe extern "C" fn chaffmoor_read_roster(table: *mut Table, roster: *const u8,
 }
 
 /// # Safety
-/// As in chaffmoor.h: the pointers are good, two of them for their lengths, and do not overlap.
+/// As in chaffmoor.h: the pointers are good, two of them for their lengths and one for 200 closings, and do not overlap.
 #[no_mangle]
 unsafe extern "C" fn chaffmoor_handle(
     table: *mut Table,
@@ -52,15 +53,28 @@ unsafe extern "C" fn chaffmoor_handle(
     message_length: usize,
     reply: *mut u8,
     reply_length: usize,
+    time: u32,
+    period: u32,
+    closings: *mut Closing,
 ) -> MessageReply {
     let message = slice::from_raw_parts(message, message_length);
     if refused(message) {
-        return MessageReply { answer: 8, length: 0 };
+        return MessageReply {
+            answer: 8,
+            length: 0,
+            closed: 0,
+        };
     }
     let reply = slice::from_raw_parts_mut(reply, reply_length);
-    let (answer, length, after) = second::handle(&*table, message, reply);
+    let (answered, after) = second::handle(&*table, Clock { time, period }, message, reply);
     *table = after;
-    MessageReply { answer, length }
+    let closed = answered.closings.len();
+    slice::from_raw_parts_mut(closings, closed).copy_from_slice(&answered.closings);
+    MessageReply {
+        answer: answered.answer,
+        length: answered.length,
+        closed,
+    }
 }
 
 /// # Safety

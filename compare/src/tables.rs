@@ -40,6 +40,7 @@ pub const EMPTY: Table = Table {
     address: 0,
     epoch: 0,
     next: 1,
+    time: 0,
     listed: 0,
     form: 0,
     occupied: [0; 8],

@@ -5,6 +5,7 @@ use crate::both::{self, Done};
 use crate::breaks;
 use crate::change;
 use crate::checkpoints;
+use crate::clock;
 use crate::intent::CHURN;
 use crate::layout::{field, words};
 use crate::near;
@@ -14,7 +15,7 @@ use crate::source;
 use crate::tally::Tally;
 use crate::values::Values;
 use second::table::Table;
-use second::Node;
+use second::{Clock, Node};
 
 /// How often a field of a table is changed at random, and how often a word.
 const CHANGES: usize = 60;
@@ -26,10 +27,11 @@ const LETTERS: usize = 400;
 /// A buffer that the largest checkpoint of a table fits into.
 const CHECKPOINT: usize = 26_000;
 
-/// A message, and the length of the buffer that comes with it.
+/// A message, and what comes with it: the length of the buffer, time and period.
 struct Letter {
     message: Vec<u8>,
     buffer: usize,
+    clock: Clock,
 }
 
 pub struct Trials<'a> {
@@ -138,21 +140,22 @@ impl Trials<'_> {
     /// A message for the table as it was, mostly of good form.
     fn letter(&mut self) -> Letter {
         let (values, random) = (self.values, &mut *self.random);
+        let clock = clock::any(self.table, random);
         if random.chance(3, 4) {
             let message = source::sound_message(values, self.table, random);
             let buffer = random.between(128, 300);
-            return Letter { message, buffer };
+            return Letter { message, buffer, clock };
         }
         let message = source::message(CHURN, 60, values, self.table, random, self.tally).bytes;
         let buffer = source::buffer_length(random);
-        Letter { message, buffer }
+        Letter { message, buffer, clock }
     }
 
     /// A message to both programs with the changed table.
     fn send(&mut self, table: &Table, letter: &Letter) -> Result<Done, String> {
-        let Letter { message, buffer } = letter;
-        both::message((table, table), message, *buffer, self.random)
-            .map_err(|what| format!("{what}\nbuffer {buffer}\nmessage {}", hex(message)))
+        let Letter { message, buffer, clock } = letter;
+        both::message((table, table), message, *clock, *buffer, self.random)
+            .map_err(|what| format!("{what}\nbuffer {buffer}\n{clock:?}\nmessage {}", hex(message)))
     }
 
     /// The same with a message of its own, and the second program's rule check by itself.

@@ -3,20 +3,42 @@
 //! nothing of the node uses it. The benchmark measures the proved program beside it (`bench/run peer`), and the
 //! comparison hands it every message too, so that it is known to do the same job.
 
+mod expiry;
 mod message;
 mod node;
 mod rules;
 mod table;
 
+use expiry::Clock;
 use table::Table;
 
 /// A table as its words.
-pub type Words = [u32; 6597];
+pub type Words = [u32; 6598];
 
-/// Handles a message: the answer, and the reply's length or 0. The table is changed in place.
+/// Calls that were closed before a message: slot and address of each.
+pub type Closings = [[u32; 2]; table::CALLS];
+
+/// What a message gets.
+#[derive(Clone, Copy, PartialEq, Eq, Debug)]
+pub struct Done {
+    pub answer: u8,
+    /// The reply's, or 0.
+    pub length: usize,
+    /// How many of the closings were written.
+    pub closed: usize,
+}
+
+/// Handles a message at the caller's time and period. The table is changed in place.
 #[inline(never)]
-pub fn handle(table: &mut Words, message: &[u8], reply: &mut [u8]) -> (u8, usize) {
-    node::handle(Table::of_mut(table), message, reply)
+pub fn handle(
+    table: &mut Words,
+    message: &[u8],
+    reply: &mut [u8],
+    time: u32,
+    period: u32,
+    closings: &mut Closings,
+) -> Done {
+    node::handle(Table::of_mut(table), message, reply, Clock { time, period }, closings)
 }
 
 /// Whether the table keeps every rule.

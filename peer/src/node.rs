@@ -1,24 +1,33 @@
 //! One message: the rule check, the answer, the change of the table in place, the reply.
 
+use crate::expiry::{elapse, Clock};
 use crate::message::{be16, be32, read, sum, Kind, Objects, Read};
 use crate::rules::{check, Counts};
 use crate::table::{pair_of, Call, Customer, Place, Table, CALLS, TOTALS};
+use crate::{Closings, Done};
 
-/// The answer and the reply's length.
+/// The whole of it.
 #[inline(always)]
-pub fn handle(table: &mut Table, message: &[u8], reply: &mut [u8]) -> (u8, usize) {
-    match check(table) {
-        Some(counts) => checked(table, &counts, message, reply),
-        None => (1, 0),
+pub fn handle(table: &mut Table, message: &[u8], reply: &mut [u8], clock: Clock, closings: &mut Closings) -> Done {
+    let refused = |answer| Done {
+        answer,
+        length: 0,
+        closed: 0,
+    };
+    let Some(mut counts) = check(table) else {
+        return refused(1);
+    };
+    if reply.len() < 128 {
+        return refused(2);
     }
+    let closed = elapse(table, &mut counts, clock, closings);
+    let (answer, length) = answer(table, &counts, message, reply);
+    Done { answer, length, closed }
 }
 
-/// From answer 2 on, for a table that keeps the rules.
+/// From answer 3 on, for a table that keeps the rules: the answer and the reply's length.
 #[inline(always)]
-fn checked(table: &mut Table, counts: &Counts, s: &[u8], reply: &mut [u8]) -> (u8, usize) {
-    if reply.len() < 128 {
-        return (2, 0);
-    }
+fn answer(table: &mut Table, counts: &Counts, s: &[u8], reply: &mut [u8]) -> (u8, usize) {
     let (kind, o) = match read(s) {
         Read::Fault(answer) => return (answer, 0),
         Read::Unfit(answer, sender) => return (if customer(table, sender) < 8 { answer } else { 11 }, 0),
@@ -98,15 +107,18 @@ fn is_named(call: &Call, name: &[u8]) -> bool {
 /// The answer, and error code and value.
 #[inline(always)]
 fn open(table: &mut Table, counts: &Counts, k: usize, pair: u64, id: u32, name: &[u8]) -> (u8, u32) {
-    let (mut known, mut long, mut short) = (false, false, false);
-    calls_of(table, pair, |_, call| {
+    let (mut known, mut long, mut short) = (CALLS, false, false);
+    calls_of(table, pair, |i, call| {
         let (a, b) = (call.id == id, is_named(call, name));
-        known |= a & b;
+        if a & b {
+            known = i;
+        }
         short |= a;
         long |= b;
-        known
+        a & b
     });
-    if known {
+    if known < CALLS {
+        table.calls[known].refreshed = table.time;
         return (21, 0);
     }
     if long {
@@ -135,7 +147,7 @@ fn add_call(table: &mut Table, pair: u64, id: u32, name: &[u8]) -> usize {
     table.occupied[slot / 32] |= 1 << (slot % 32);
     let call = &mut table.calls[slot];
     // The rest of a free slot is zeros already.
-    (call.endpoint, call.sender) = (pair as u32, (pair >> 32) as u32);
+    (call.endpoint, call.sender, call.refreshed) = (pair as u32, (pair >> 32) as u32, table.time);
     (call.id, call.size) = (id, name.len() as u32);
     call.name[..name.len()].copy_from_slice(name);
     slot
@@ -171,7 +183,8 @@ fn open_nameless(table: &mut Table, counts: &Counts, k: usize, pair: u64, reques
         }
         known.is_some()
     });
-    if known.is_some() {
+    if let Some(slot) = known {
+        table.calls[slot].refreshed = table.time;
         return (21, known);
     }
     if share_is_used(table, counts, k) {
@@ -226,8 +239,7 @@ fn close(table: &mut Table, pair: u64, id: u32, name: &[u8]) -> (u8, u32) {
     if table.calls[slot].places.iter().any(|place| place.taken != 0) {
         return (32, 0x0020_0002);
     }
-    table.calls[slot] = Call::FREE;
-    table.occupied[slot / 32] ^= 1 << (slot % 32);
+    table.free(slot);
     (22, 0)
 }
 

@@ -252,6 +252,7 @@ impl<const HEADS: usize, const IDS: usize> Pass<HEADS, IDS> {
                 if used >> i & 1 == 0 {
                     bits.bad |= u64::from(!are_zeros(std::slice::from_ref(call)));
                 } else {
+                    bits.bad |= u64::from(call.refreshed > table.time);
                     pass.call(&mut bits, 64 * w + i, call, equal(addresses, call.sender) & mask)?;
                 }
             }
@@ -277,7 +278,6 @@ impl<const HEADS: usize, const IDS: usize> Pass<HEADS, IDS> {
         if size.wrapping_sub(1) >= 32 || call.id.wrapping_sub(1) >= 0xffff {
             return None;
         }
-        bits.bad |= u64::from(call.refreshed);
         bits.requests |= call.epoch | call.identifier | call.made;
         bits.bad |= u64::from(call.name[size - 1] == 0);
         // SAFETY: all reads lie within the name or, the size being 1 to 32, within PAST.
@@ -442,7 +442,7 @@ mod tests {
     /// A full table of one pair, of this form, whose connections all meet in one chain.
     fn all_meet(form: u32) -> Words {
         let total = TOTALS[form as usize];
-        let mut words = [0; 6597];
+        let mut words = [0; 6598];
         let table = Table::of_mut(&mut words);
         (table.address, table.epoch, table.next, table.listed, table.form) = (9, 7, 1, 1, form);
         (table.customers[0].address, table.customers[0].limit) = (5, total);

@@ -47,6 +47,7 @@ pub struct Table {
     pub address: u32,
     pub epoch: u32,
     pub next: u32,
+    pub time: u32,
     pub listed: u32,
     pub form: u32,
     pub occupied: [u32; 8],
@@ -80,6 +81,13 @@ impl Table {
     #[inline(always)]
     pub fn is_used(&self, slot: usize) -> bool {
         self.occupied[slot / 32] >> (slot % 32) & 1 == 1
+    }
+
+    /// Frees a used slot.
+    #[inline(always)]
+    pub fn free(&mut self, slot: usize) {
+        self.calls[slot] = Call::FREE;
+        self.occupied[slot / 32] ^= 1 << (slot % 32);
     }
 }
 

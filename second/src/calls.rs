@@ -1,6 +1,6 @@
 //! 01, "Every answer" and "Share": opening and closing calls; A6, calls that arrive without names.
 
-use crate::keys::{CallIds, Name, Pair, RequestId};
+use crate::keys::{CallIds, Name, Pair, RequestId, ShortId};
 use crate::message::CallRequest;
 use crate::node::{Node, OpenCall};
 use crate::places::Places;
@@ -11,7 +11,10 @@ impl Node {
         let name = Name::new(request.name);
         let (short, long) = ((request.pair, request.id), (request.pair, name));
         match self.long_ids.get(&long) {
-            Some(&id) if id == request.id => return 21,
+            Some(&id) if id == request.id => {
+                self.refresh(short);
+                return 21;
+            }
             Some(_) => return 31,
             None => {}
         }
@@ -29,6 +32,7 @@ impl Node {
     pub(crate) fn open_nameless(&mut self, request: &CallRequest<'_>, customer: usize) -> (u8, Option<CallIds>) {
         let (pair, made_by) = (request.pair, request.request_id());
         if let Some(&id) = self.made.get(&(pair, made_by)) {
+            self.refresh((pair, id));
             let name = self.calls[&(pair, id)].name;
             return (21, Some(CallIds { id, name }));
         }
@@ -57,6 +61,7 @@ impl Node {
             slot,
             name: ids.name,
             made_by,
+            refreshed: self.time,
             places: Places::default(),
         };
         self.enter(pair, ids.id, call);
@@ -73,22 +78,28 @@ impl Node {
     }
 
     /// Close: 33, 32, 22.
-    pub(crate) fn close(&mut self, request: &CallRequest<'_>, customer: usize) -> u8 {
+    pub(crate) fn close(&mut self, request: &CallRequest<'_>) -> u8 {
         let (short, long) = ((request.pair, request.id), (request.pair, Name::new(request.name)));
         if self.long_ids.get(&long) != Some(&request.id) {
             return 33;
         }
-        let call = &self.calls[&short];
-        if !call.places.all_free() {
+        if !self.calls[&short].places.all_free() {
             return 32;
         }
+        self.remove_call(short);
+        22
+    }
+
+    /// Takes an open call without connections out of the maps, and frees its slot.
+    pub(crate) fn remove_call(&mut self, short: ShortId) {
+        let pair = short.0;
+        let call = self.calls.remove(&short).expect("an open call");
+        self.long_ids.remove(&(pair, call.name));
         if let Some(made_by) = call.made_by {
-            self.made.remove(&(request.pair, made_by));
+            self.made.remove(&(pair, made_by));
         }
         self.free.release(call.slot);
-        self.calls.remove(&short);
-        self.long_ids.remove(&long);
+        let customer = self.roster.find(pair.sender).expect("a call's sender is listed");
         self.roster.accounts[customer].open -= 1;
-        22
     }
 }

@@ -1,4 +1,4 @@
-//! The call side of a light-path node, written from document 01 and requests A1, A6, A11 and A13 alone.
+//! The call side of a light-path node, written from document 01 and requests A1, A6, A7, A11 and A13 alone.
 //!
 //! The node's state is kept in maps and sets (`Node`). A table is only what goes in and comes out.
 #![forbid(unsafe_code)]
@@ -8,6 +8,7 @@ mod calls;
 mod checkpoint;
 mod checksum;
 mod connections;
+mod expiry;
 pub mod keys;
 pub mod message;
 mod node;
@@ -22,7 +23,8 @@ pub mod table;
 mod tests;
 
 pub use checkpoint::{read_checkpoint, write_checkpoint};
+pub use expiry::{Clock, Closing};
 pub use message::{read_message, Message};
-pub use node::{handle, Node};
+pub use node::{handle, Answered, Node};
 pub use roster::read_roster;
 pub use table::Table;

@@ -2,6 +2,7 @@
 
 use std::collections::HashMap;
 
+use crate::expiry::{Clock, Closing};
 use crate::keys::{Connection, LongId, Name, PairRequest, RequestId, ShortId};
 use crate::message::{read, CallRequest, Message};
 use crate::places::Places;
@@ -17,6 +18,8 @@ pub struct Node {
     pub(crate) epoch: u32,
     /// The identifier that the next Notify carries.
     pub(crate) next: u32,
+    /// In seconds: the latest that was handed in (A7).
+    pub(crate) time: u32,
     pub(crate) roster: Roster,
     /// The open calls.
     pub(crate) calls: HashMap<ShortId, OpenCall>,
@@ -36,6 +39,8 @@ pub(crate) struct OpenCall {
     pub name: Name,
     /// The nameless request that made it (A6). None where it was opened by name.
     pub made_by: Option<RequestId>,
+    /// The node's time at its last 20 or 21 (A7).
+    pub refreshed: u32,
     pub places: Places,
 }
 
@@ -65,22 +70,53 @@ impl Holder {
     }
 }
 
-/// Everything 01 asks of one message, the rule check included: answer, reply length, table afterwards.
-pub fn handle(table: &Table, message: &[u8], reply: &mut [u8]) -> (u8, usize, Table) {
+/// What a message gets.
+#[derive(Clone, PartialEq, Eq, Debug)]
+pub struct Answered {
+    pub answer: u8,
+    /// The reply's, 0 where none is sent.
+    pub length: usize,
+    /// The calls that were closed before the message, in slot order (A7).
+    pub closings: Vec<Closing>,
+}
+
+impl Answered {
+    /// An answer by itself: nothing is sent, and nothing was closed.
+    fn only(answer: u8) -> Answered {
+        Answered {
+            answer,
+            length: 0,
+            closings: Vec::new(),
+        }
+    }
+}
+
+/// Everything 01 asks of one message, the rule check included, and the table afterwards.
+pub fn handle(table: &Table, clock: Clock, message: &[u8], reply: &mut [u8]) -> (Answered, Table) {
     let Some(mut node) = Node::from_table(table) else {
-        return (1, 0, *table);
+        return (Answered::only(1), *table);
     };
-    let (answer, length) = node.answer(message, reply);
-    (answer, length, node.to_table())
+    let answered = node.answer(clock, message, reply);
+    (answered, node.to_table())
 }
 
 impl Node {
-    /// Answers a message, the rules taken as held: answer, and reply length or 0.
-    /// Writes the reply to the front of `reply`.
-    pub fn answer(&mut self, message: &[u8], reply: &mut [u8]) -> (u8, usize) {
+    /// Answers a message, the rules taken as held. Writes the reply to the front of `reply`.
+    pub fn answer(&mut self, clock: Clock, message: &[u8], reply: &mut [u8]) -> Answered {
         if reply.len() < reply::SMALLEST_BUFFER {
-            return (2, 0);
+            return Answered::only(2);
         }
+        let closings = self.elapse(clock);
+        let (answer, length) = self.answer_now(message, reply);
+        Answered {
+            answer,
+            length,
+            closings,
+        }
+    }
+
+    /// From answer 3 on, behind the closings: answer, and reply length or 0.
+    fn answer_now(&mut self, message: &[u8], reply: &mut [u8]) -> (u8, usize) {
         let (message, customer) = match self.admit(message) {
             Ok(admitted) => admitted,
             Err(fault) => return (fault, 0),
@@ -95,7 +131,7 @@ impl Node {
                 (answer, self.notify(reply, &request, Outcome { closes, answer, made }))
             }
             Message::Close(request) => {
-                let answer = self.close(&request, customer);
+                let answer = self.close(&request);
                 let (closes, made) = (true, None);
                 (answer, self.notify(reply, &request, Outcome { closes, answer, made }))
             }

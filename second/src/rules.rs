@@ -43,6 +43,7 @@ impl Node {
             address: table.address,
             epoch: table.epoch,
             next: table.next,
+            time: table.time,
             free: Slots::all_free(roster.total()),
             roster,
             calls: HashMap::new(),
@@ -58,12 +59,12 @@ impl Node {
     }
 
     /// A used slot of the total: listed sender within its limit, good IDs that its pair has only once, as it has the
-    /// two numbers of a made call; zeros for a later request.
+    /// two numbers of a made call; no refresh after the node's time (A7).
     pub(crate) fn insert_call(&mut self, slot: usize, call: &Call) -> Option<()> {
         if !self.free.take(slot) {
             return None;
         }
-        if call.refreshed != 0 {
+        if call.refreshed > self.time {
             return None;
         }
         let made_by = checked_request(call)?;
@@ -85,6 +86,7 @@ impl Node {
             slot,
             name,
             made_by,
+            refreshed: call.refreshed,
             places,
         };
         self.enter(pair, id, open).then_some(())
@@ -133,6 +135,7 @@ impl Node {
             address: self.address,
             epoch: self.epoch,
             next: self.next,
+            time: self.time,
             listed: self.roster.accounts.len() as u32,
             form: self.roster.form.map_or(0, Form::number),
             ..Table::EMPTY
@@ -147,6 +150,7 @@ impl Node {
             let call = &mut table.calls[open.slot];
             call.endpoint = pair.endpoint;
             call.sender = pair.sender;
+            call.refreshed = open.refreshed;
             call.id = id.into();
             call.size = open.name.size.into();
             call.name = open.name.bytes;

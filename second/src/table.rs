@@ -1,4 +1,4 @@
-//! 01, "Table rules": the table as plain data, 6,597 words of 32 bits with the fields and the order of chaffmoor.h. A
+//! 01, "Table rules": the table as plain data, 6,598 words of 32 bits with the fields and the order of chaffmoor.h. A
 //! field can hold more than its values are: 01's widths are table rules (`rules`).
 
 /// Slots for calls. A roster's total may be less (A11).
@@ -23,7 +23,7 @@ pub struct Place {
 }
 
 /// A call. Its long Call ID is the first `size` bytes of `name`. `made` is 1 where the node made its IDs (A6), and then
-/// `epoch` and `identifier` are the request's. `refreshed` is for a later request: a table rule holds it at zero.
+/// `epoch` and `identifier` are the request's. `refreshed` is the node's time at its last 20 or 21 (A7).
 #[repr(C)]
 #[derive(Clone, Copy, PartialEq, Eq, Debug)]
 pub struct Call {
@@ -57,6 +57,8 @@ pub struct Table {
     pub address: u32,
     pub epoch: u32,
     pub next: u32,
+    /// The node's, in seconds (A7).
+    pub time: u32,
     pub listed: u32,
     /// The roster's form, 0 where no customer is listed.
     pub form: u32,
@@ -106,6 +108,7 @@ impl Table {
         address: 0,
         epoch: 0,
         next: 1,
+        time: 0,
         listed: 0,
         form: 0,
         occupied: [0; OCCUPIED],

@@ -20,15 +20,18 @@ static const uint8_t wide[] = {
     172, 16, 5, 6, 3, 200,
 };
 
-enum { HEAD = 4, CALL = 55, CONNECTION = 18, SECOND = HEAD + CALL, BEHIND = HEAD + 2 * CALL };
+enum { HEAD = 4, CALL = 55, REFRESHED = 44, CONNECTION = 18, SECOND = HEAD + CALL, BEHIND = HEAD + 2 * CALL };
 
-/* Two calls and four connections; bytes that are not named are zeros. */
+/* Two calls and four connections; bytes that are not named are zeros. The first call was refreshed at 999,999,999, the
+ * second a second later. */
 static const uint8_t checkpoint[BEHIND + 4 * CONNECTION] = {
     0x10, 2, 0, 4,
     /* slot 3, short ID 258, end point 192.0.2.7, sender 10.1.2.3, the name "abc" */
     [HEAD] = 3, 1, 2, 192, 0, 2, 7, 10, 1, 2, 3, 3, 'a', 'b', 'c',
+    [HEAD + REFRESHED] = 0x3b, 0x9a, 0xc9, 0xff,
     /* slot 60, short ID 513, end point 198.51.100.9, sender 172.16.5.6, the name "z" */
     [SECOND] = 60, 2, 1, 198, 51, 100, 9, 172, 16, 5, 6, 1, 'z',
+    [SECOND + REFRESHED] = 0x3b, 0x9a, 0xca, 0x00,
     /* one under the first call, two under the second: end point, Call ID, Tunnel ID, extended, sender, LSP ID */
     [BEHIND] = 192, 0, 2, 7, 1, 2, 0, 41, 0, 0, 0, 42, 10, 1, 2, 3, 0, 43,
     198, 51, 100, 9, 2, 1, 0, 51, 0, 0, 0, 52, 172, 16, 5, 6, 0, 53,

@@ -1,5 +1,6 @@
 /* A first use of the library from C: a roster, the worked Path of document 01 and its reply, a setup and its reply, two
- * connections, every field of the table, tables that were changed by hand, and a roster of form 2.
+ * connections, every field of the table, tables that were changed by hand, a roster of form 2, and a call that nobody
+ * refreshes.
  * Build: cc -Iinclude tests/c/first_use.c target/staticlib/libchaffmoor.a -o first_use */
 #include "chaffmoor.h"
 #include "show.h"
@@ -30,9 +31,14 @@ static const uint8_t setup[] = {
     0x00, 0x0c, 0xcf, 0x07, 4, 7, 0, 1, 'c', 0, 0, 0,
 };
 
-/* A Path under that call, and one of Call ID 0 to 10.0.0.11. */
+/* A Path under that call, its PathTear, and a Path of Call ID 0 to 10.0.0.11. */
 static const uint8_t under[] = {
     0x10, 0x01, 0, 0, 0xff, 0, 0, 0x24,
+    0x00, 0x10, 0x01, 0x07, 0x0a, 0, 0, 9, 0, 6, 0, 21, 0, 0, 0, 22,
+    0x00, 0x0c, 0x0b, 0x07, 0x0a, 0, 0, 1, 0, 0, 0, 23,
+};
+static const uint8_t tear[] = {
+    0x10, 0x05, 0, 0, 0xff, 0, 0, 0x24,
     0x00, 0x10, 0x01, 0x07, 0x0a, 0, 0, 9, 0, 6, 0, 21, 0, 0, 0, 22,
     0x00, 0x0c, 0x0b, 0x07, 0x0a, 0, 0, 1, 0, 0, 0, 23,
 };
@@ -44,27 +50,41 @@ static const uint8_t alone[] = {
 
 static chaffmoor_table table;
 static uint8_t reply[CHAFFMOOR_REPLY];
+static chaffmoor_closing closings[CHAFFMOOR_CALLS];
 
 /* A message with a buffer that holds the byte ee before: its answer, and its reply where one was sent. */
 static void send(const char *what, const uint8_t *message, size_t length)
 {
     memset(reply, 0xee, sizeof reply);
-    chaffmoor_message_reply r = chaffmoor_handle(&table, message, length, reply, sizeof reply);
+    chaffmoor_message_reply r = chaffmoor_handle(&table, message, length, reply, sizeof reply, 0, 0, closings);
     printf("%s: answer %u, %zu bytes", what, (unsigned)r.answer, r.length);
     show_bytes(reply, r.length);
     printf("the byte behind it: %02x\n", reply[r.length]);
 }
 
+/* A message at this time, with a period of 10 seconds: its answer and the calls that were closed before it. */
+static void at(uint32_t time, const char *what, const uint8_t *message, size_t length, size_t reply_length)
+{
+    memset(closings, 0xee, sizeof closings);
+    chaffmoor_message_reply r = chaffmoor_handle(&table, message, length, reply, reply_length, time, 10, closings);
+    printf("%s at %u: answer %u, closed %zu", what, (unsigned)time, (unsigned)r.answer, r.closed);
+    for (size_t k = 0; k < r.closed; k++)
+        printf(", slot %u of %08x", (unsigned)closings[k].slot, (unsigned)closings[k].address);
+    if (r.closed < CHAFFMOOR_CALLS)
+        printf(", behind them %08x", (unsigned)closings[r.closed].slot);
+    printf("; time %u, refreshed %u\n", (unsigned)table.time, (unsigned)table.calls[0].refreshed);
+}
+
 /* The same setup with a buffer of other lengths, and with nothing at an address that comes with length 0. */
 static void lengths(void)
 {
-    chaffmoor_message_reply r = chaffmoor_handle(&table, setup, sizeof setup, reply, 127);
+    chaffmoor_message_reply r = chaffmoor_handle(&table, setup, sizeof setup, reply, 127, 0, 0, closings);
     printf("buffer of 127: answer %u\n", (unsigned)r.answer);
-    r = chaffmoor_handle(&table, setup, sizeof setup, reply, 128);
+    r = chaffmoor_handle(&table, setup, sizeof setup, reply, 128, 0, 0, closings);
     printf("buffer of 128: answer %u\n", (unsigned)r.answer);
-    r = chaffmoor_handle(&table, (const uint8_t *)8, 0, reply, sizeof reply);
+    r = chaffmoor_handle(&table, (const uint8_t *)8, 0, reply, sizeof reply, 0, 0, closings);
     printf("message of 0: answer %u\n", (unsigned)r.answer);
-    r = chaffmoor_handle(&table, setup, sizeof setup, (uint8_t *)8, 0);
+    r = chaffmoor_handle(&table, setup, sizeof setup, (uint8_t *)8, 0, 0, 0, closings);
     printf("buffer of 0: answer %u\n", (unsigned)r.answer);
 }
 
@@ -75,10 +95,32 @@ static void broken(const char *what, uint32_t *word, uint32_t value)
     uint32_t right = *word;
     *word = value;
     before = table;
-    chaffmoor_message_reply r = chaffmoor_handle(&table, setup, sizeof setup, reply, sizeof reply);
+    /* At another time, which is not raised either. */
+    chaffmoor_message_reply r = chaffmoor_handle(&table, setup, sizeof setup, reply, sizeof reply, 9, 1, closings);
     printf("%s: answer %u, table %s\n", what, (unsigned)r.answer,
            memcmp(&table, &before, sizeof table) == 0 ? "as it was" : "changed");
     *word = right;
+}
+
+/* A call that lapses, and what keeps one: request A7. */
+static void expiry(void)
+{
+    printf("roster: answer %u\n", (unsigned)chaffmoor_read_roster(&table, roster, sizeof roster));
+    at(100, "setup", setup, sizeof setup, sizeof reply);
+    /* Five periods less a second: the retry refreshes it. */
+    at(149, "setup", setup, sizeof setup, sizeof reply);
+    at(198, "a message of 0", setup, 0, sizeof reply);
+    /* Answer 2 raises no time and closes nothing. */
+    at(1000, "buffer of 127", setup, sizeof setup, 127);
+    /* Five periods: it is closed, and then opened anew. */
+    at(199, "setup", setup, sizeof setup, sizeof reply);
+    /* A connection keeps it, and a time that goes back is not taken. */
+    at(199, "path under the call", under, sizeof under, sizeof reply);
+    at(9999, "a message of 0", setup, 0, sizeof reply);
+    at(5, "a message of 0", setup, 0, sizeof reply);
+    at(5, "path tear", tear, sizeof tear, sizeof reply);
+    at(5, "path under the call", under, sizeof under, sizeof reply);
+    show_table(&table);
 }
 
 int main(void)
@@ -98,7 +140,7 @@ int main(void)
     broken("taken 2", &table.calls[0].places[0].taken, 2);
     broken("a free slot's end point", &table.calls[9].endpoint, 1);
     broken("a name that ends in zero", &table.calls[0].size, 2);
-    /* The last refresh is zero until a later request uses it; only a call that the node made has the others. */
+    /* The table's time is 0, and no refresh lies after it; only a call that the node made has the others. */
     broken("refreshed", &table.calls[0].refreshed, 1);
     broken("epoch", &table.calls[0].epoch, 1);
     broken("identifier", &table.calls[0].identifier, 1);
@@ -122,5 +164,6 @@ int main(void)
     /* Refused, and the table is the empty one. */
     printf("a byte less: answer %u\n", (unsigned)chaffmoor_read_roster(&table, wide, sizeof wide - 1));
     show_table(&table);
+    expiry();
     return 0;
 }

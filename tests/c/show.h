@@ -49,10 +49,11 @@ static void show_customer(const chaffmoor_customer *customer)
 
 static void show_call(int slot, const chaffmoor_call *call)
 {
-    printf("call in slot %d: end point %08x, sender %08x, id %u, size %u, name '%.*s', zeros %u %u %u %u\n", slot,
-           (unsigned)call->endpoint, (unsigned)call->sender, (unsigned)call->id, (unsigned)call->size, (int)call->size,
-           (const char *)call->name, (unsigned)call->refreshed, (unsigned)call->epoch, (unsigned)call->identifier,
-           (unsigned)call->made);
+    printf("call in slot %d: end point %08x, sender %08x, id %u, size %u, name '%.*s'", slot, (unsigned)call->endpoint,
+           (unsigned)call->sender, (unsigned)call->id, (unsigned)call->size, (int)call->size,
+           (const char *)call->name);
+    printf(", refreshed %u, zeros %u %u %u\n", (unsigned)call->refreshed, (unsigned)call->epoch,
+           (unsigned)call->identifier, (unsigned)call->made);
     for (int j = 0; j < CHAFFMOOR_PLACES; j++)
         if (call->places[j].taken)
             show_place("call", call->endpoint, &call->places[j]);
@@ -60,8 +61,9 @@ static void show_call(int slot, const chaffmoor_call *call)
 
 static void show_table(const chaffmoor_table *table)
 {
-    printf("table: address %08x, epoch %u, next %u, listed %u, form %u", (unsigned)table->address,
-           (unsigned)table->epoch, (unsigned)table->next, (unsigned)table->listed, (unsigned)table->form);
+    printf("table: address %08x, epoch %u, next %u, time %u, listed %u, form %u", (unsigned)table->address,
+           (unsigned)table->epoch, (unsigned)table->next, (unsigned)table->time, (unsigned)table->listed,
+           (unsigned)table->form);
     show_slots(table);
     for (unsigned k = 0; k < table->listed; k++)
         show_customer(&table->customers[k]);

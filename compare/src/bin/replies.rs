@@ -38,7 +38,7 @@ impl Node {
     /// Sends a message that has to be answered so, and writes the reply, if there is one.
     fn send(&mut self, message: &[u8], due: u8) {
         let mut reply = [0; 128];
-        let (answer, length) = first::handle(&mut self.table, message, &mut reply);
+        let (answer, length) = first::handle_at_0(&mut self.table, message, &mut reply);
         assert_eq!(answer, due);
         if length > 0 {
             let hex: String = reply[..length].iter().map(|byte| format!("{byte:02x}")).collect();

@@ -1,5 +1,5 @@
 //! "Every call's sender is listed", "no pair has a long or short ID twice", "names 1 to 32 bytes and Call IDs nonzero",
-//! "a stored name ends in a nonzero byte" (A1); the field for a later request holds zero.
+//! "a stored name ends in a nonzero byte" (A1).
 
 use super::tools::*;
 use super::Break;
@@ -23,7 +23,6 @@ pub const BREAKS: &[(&str, Break)] = &[
     ("Call ID 0", id_none),
     ("byte right behind the name", byte_behind),
     ("byte anywhere past the name", byte_past),
-    ("last refresh of a call", last_refresh),
     ("occupied bit set over a free slot", bit_set),
     ("occupied bit cleared over a used slot", bit_cleared),
 ];
@@ -140,12 +139,6 @@ fn with_short_name(table: &mut Table, random: &mut Random, change: impl FnOnce(&
     }
     change(&mut table.calls[*random.pick(&short)], random);
     true
-}
-
-/// Of a marked call too.
-fn last_refresh(table: &mut Table, random: &mut Random) -> bool {
-    let bit = 1 << random.below(32);
-    with_call(table, random, |call| call.refreshed = bit)
 }
 
 fn bit_set(table: &mut Table, random: &mut Random) -> bool {

@@ -7,6 +7,7 @@ mod connections;
 pub mod form;
 mod free;
 mod made;
+mod refreshed;
 mod roster;
 pub mod tools;
 
@@ -21,6 +22,7 @@ pub fn all() -> impl Iterator<Item = &'static (&'static str, Break)> {
         .iter()
         .chain(calls::BREAKS)
         .chain(made::BREAKS)
+        .chain(refreshed::BREAKS)
         .chain(connections::BREAKS)
         .chain(free::BREAKS)
         .chain(form::BREAKS)

@@ -14,8 +14,15 @@ pub const DAMAGES: &[(&str, Damage)] = &[
         one(p, r, |call, _| call[SIZE.0] |= 0x80)
     }),
     ("call: last refresh set", |p, _, r| {
-        one(p, r, |call, r| set(call, REFRESHED, 1 << r.below(32)))
+        one(p, r, |call, r| set(call, REFRESHED, some_refresh(r)))
     }),
+    ("calls: last refreshes of every size", |p, _, r| {
+        p.calls
+            .iter_mut()
+            .for_each(|call| set(call, REFRESHED, some_refresh(r)));
+        p.calls.len() > 1
+    }),
+    ("call that is dropped, refreshed last", refreshed_last),
     ("call: made mark cleared", |p, _, r| {
         one(p, r, |call, _| call[SIZE.0] &= 0x7f)
     }),
@@ -86,6 +93,34 @@ fn one(parts: &mut Parts, random: &mut Random, change: fn(&mut Call, &mut Random
         return false;
     };
     change(&mut parts.calls[number], random);
+    true
+}
+
+/// Small ones, a bit alone, the largest, any.
+pub fn some_refresh(random: &mut Random) -> u32 {
+    let any = random.word();
+    let (small, bit) = (any >> random.below(32), 1 << random.below(32));
+    *random.pick(&[0, 1, small, small, bit, any, u32::MAX - 1, u32::MAX])
+}
+
+/// A call without an ID, or in a taken slot, with a later refresh than any other.
+fn refreshed_last(parts: &mut Parts, _: &Roster, random: &mut Random) -> bool {
+    let latest = parts.calls.iter().map(|call| get(call, REFRESHED)).max();
+    let (Some(latest), Some(number)) = (latest, parts.some_call(random)) else {
+        return false;
+    };
+    let mut call = parts.calls[number];
+    if random.chance(1, 2) {
+        set(&mut call, ID, 0);
+    }
+    set(
+        &mut call,
+        REFRESHED,
+        latest.saturating_add(1 + random.below(1000) as u32),
+    );
+    // Behind the one whose slot it has.
+    let place = random.between(number + 1, parts.calls.len());
+    parts.calls.insert(place, call);
     true
 }
 

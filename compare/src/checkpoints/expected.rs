@@ -18,7 +18,6 @@ pub const REASONS: &[&str] = &[
     "call alone: name length above 32",
     "call alone: byte past the name",
     "call alone: name ends in zero",
-    "call alone: last refresh",
     "call alone: request epoch without the mark",
     "call alone: request identifier without the mark",
     "duplicate: fewer connections",
@@ -36,7 +35,7 @@ pub const REASONS: &[&str] = &[
     "connection: a customer's four",
 ];
 
-/// Made calls that are kept (A6).
+/// Calls that are kept: made ones (A6), and by their last refresh (A7).
 pub const KEPT: &[&str] = &[
     "made call kept: under the name made of its ID",
     "made call kept: under another name",
@@ -45,6 +44,16 @@ pub const KEPT: &[&str] = &[
     "made call kept: largest epoch",
     "made call kept: the numbers of another pair's",
     "made call kept: one number of another of the pair",
+    "call kept: refresh 0",
+    "call kept: refresh 1 to 65,535",
+    "call kept: refresh 65,536 to 2^31 less 1",
+    "call kept: refresh 2^31 and above",
+    "call kept: refresh 4,294,967,295",
+    "call kept: refresh earlier than another's",
+    "latest refresh of those kept is that of the last record kept",
+    "latest refresh of those kept is that of another record",
+    "call dropped: refresh later than that of all kept",
+    "no call kept of those with a refresh",
 ];
 
 /// The reasons of the calls and of the connections dropped.
@@ -52,8 +61,10 @@ pub const KEPT: &[&str] = &[
 pub struct Drops {
     pub calls: Vec<&'static str>,
     pub connections: Vec<&'static str>,
-    /// What made calls were kept.
+    /// What was kept, and how its refreshes stand to those dropped.
     pub kept: Vec<&'static str>,
+    /// The latest refresh of the calls kept, 0 where none is.
+    pub time: u32,
 }
 
 /// The roster that a checkpoint is read under.
@@ -81,7 +92,30 @@ pub fn expected_drops(roster: &[u8], parts: &Parts) -> Drops {
         .filter(is_made)
         .flat_map(|call| kinds(&kept, call))
         .collect();
+    let refreshes: Vec<u32> = kept.iter().map(|call| get(*call, REFRESHED)).collect();
+    drops.time = refreshes.iter().copied().max().unwrap_or(0);
+    drops.kept.extend(by_refresh(parts, &refreshes, drops.time));
     drops
+}
+
+/// A7: the refreshes of the calls kept, the latest of them, and those of the records.
+fn by_refresh(parts: &Parts, kept: &[u32], latest: u32) -> Vec<&'static str> {
+    let records = || parts.calls.iter().map(|call| get(call, REFRESHED));
+    let (first, last) = (kept.iter().position(|&one| one == latest), kept.len().checked_sub(1));
+    let any = |wanted: fn(u32) -> bool| kept.iter().any(|&one| wanted(one));
+    let came = [
+        (any(|one| one == 0), KEPT[7]),
+        (any(|one| (1..1 << 16).contains(&one)), KEPT[8]),
+        (any(|one| (1 << 16..1 << 31).contains(&one)), KEPT[9]),
+        (any(|one| one >= 1 << 31), KEPT[10]),
+        (any(|one| one == u32::MAX), KEPT[11]),
+        (kept.iter().any(|&one| one < latest), KEPT[12]),
+        (latest > 0 && first == last, KEPT[13]),
+        (latest > 0 && first != last, KEPT[14]),
+        (!kept.is_empty() && records().any(|one| one > latest), KEPT[15]),
+        (kept.is_empty() && records().any(|one| one > 0), KEPT[16]),
+    ];
+    came.into_iter().filter(|kind| kind.0).map(|kind| kind.1).collect()
 }
 
 /// The calls that salvage keeps, in their order.
@@ -115,6 +149,8 @@ pub fn restored_calls(roster: &[u8], parts: &Parts) -> Vec<Restored> {
 fn restored(call: &Call) -> Restored {
     let (endpoint, sender) = pair(call);
     Restored {
+        slot: get(call, SLOT),
+        refreshed: get(call, REFRESHED),
         endpoint,
         sender,
         ids: Ids {
@@ -214,7 +250,6 @@ fn alone(roster: &Roster, call: &Call) -> Option<&'static str> {
         (size > 32, "call alone: name length above 32"),
         (past, "call alone: byte past the name"),
         (ends_in_zero, "call alone: name ends in zero"),
-        (get(call, REFRESHED) != 0, "call alone: last refresh"),
         (
             !is_marked(call) && get(call, EPOCH) != 0,
             "call alone: request epoch without the mark",

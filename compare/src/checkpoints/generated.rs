@@ -1,5 +1,6 @@
 //! Checkpoints that no program wrote: random bytes, and records of so few values that they meet often.
 
+use super::calls;
 use super::connections;
 use super::parts::*;
 use crate::build::Roster;
@@ -85,6 +86,9 @@ fn call(total: usize, pairs: &[(u32, u32)], values: usize, random: &mut Random) 
         call[SIZE.0] |= 0x80;
         set(&mut call, EPOCH, random.below(2) as u32);
         set(&mut call, IDENTIFIER, random.below(values) as u32);
+    }
+    if random.chance(1, 2) {
+        set(&mut call, REFRESHED, calls::some_refresh(random));
     }
     match random.below(60) {
         0 => set(&mut call, SLOT, total as u32),

@@ -2,6 +2,7 @@
 
 use crate::both;
 use crate::build::{Record, Roster};
+use crate::clock::{self, Habit};
 use crate::coverage::situations;
 use crate::form;
 use crate::full::Full;
@@ -21,6 +22,9 @@ fn steps(form: u8) -> usize {
     4 + form::total(form) / 8
 }
 const TABLES: usize = 30;
+
+/// Times that mostly close nothing, so that there are calls to write.
+const HABITS: [(usize, Habit); 2] = [(9, Habit::Calm), (1, Habit::Closing)];
 
 pub struct TableSource {
     values: Values,
@@ -83,8 +87,10 @@ impl TableSource {
 
     fn step(&mut self, random: &mut Random) -> Result<(), String> {
         let made = source::message(self.mode, 3, &self.values, &self.table, random, &mut self.tally);
-        let done = both::message((&self.table, &self.table), &made.bytes, 128, random);
-        let done = done.map_err(|what| format!("{what}\nmessage {}", hex(&made.bytes)))?;
+        let habit = random.weighted(&HABITS);
+        let clock = clock::next(habit, &self.table, random);
+        let done = both::message((&self.table, &self.table), &made.bytes, clock, 128, random);
+        let done = done.map_err(|what| format!("{what}\n{clock:?}\nmessage {}", hex(&made.bytes)))?;
         self.table = *done.first;
         Ok(())
     }

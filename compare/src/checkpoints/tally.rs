@@ -90,7 +90,7 @@ impl Tally {
         print_answers("answers to writing a checkpoint", &self.writing);
         print_counts("checkpoints, by what was done to them or to the roster", &self.kinds);
         print_counts("records dropped by salvage", &self.reasons);
-        print_counts("made calls kept", &self.kept);
+        print_counts("made calls kept, and calls by their last refresh", &self.kept);
         print_counts("checkpoints of form 2 read under form 1", &self.narrowed);
         let (trips, salvaged) = (self.round_trips, self.salvaged);
         println!("round trips: {trips}; checkpoints salvaged with records dropped: {salvaged}");

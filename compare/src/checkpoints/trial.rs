@@ -36,6 +36,7 @@ pub fn read(roster: &[u8], checkpoint: &[u8], tally: &mut Tally) -> Result<Vec<&
         mut calls,
         connections,
         kept,
+        ..
     }) = due
     else {
         return Ok(Vec::new());
@@ -61,16 +62,19 @@ fn due(roster: &[u8], checkpoint: &[u8]) -> Due {
 
 /// Answer and counts are those due, and the table is one that may come with them.
 fn check(read: &Read, due: &Due, salvages: bool, fresh: &Table) -> Result<(), String> {
-    let (answer, dropped) = match due {
-        Due::Refused(answer) => (*answer, (0, 0)),
+    let (answer, dropped, time) = match due {
+        Due::Refused(answer) => (*answer, (0, 0), 0),
         Due::Kept(drops) => match (drops.calls.len(), drops.connections.len()) {
-            (0, 0) => (0, (0, 0)),
-            dropped if salvages => (0, dropped),
-            _ => (72, (0, 0)),
+            (0, 0) => (0, (0, 0), drops.time),
+            dropped if salvages => (0, dropped, drops.time),
+            _ => (72, (0, 0), 0),
         },
     };
     if (read.answer, read.dropped) != (answer, dropped) {
         return Err(format!("dropped {:?}; {answer} and {dropped:?} are due", read.dropped));
+    }
+    if read.table.time != time {
+        return Err(format!("time {}; {time} is due", read.table.time));
     }
     if answer != 0 {
         return same_tables(&read.table, fresh);
@@ -79,7 +83,7 @@ fn check(read: &Read, due: &Due, salvages: bool, fresh: &Table) -> Result<(), St
         return Err("the table breaks a rule".into());
     }
     let mut emptied = read.table;
-    (emptied.occupied, emptied.calls) = (fresh.occupied, fresh.calls);
+    (emptied.time, emptied.occupied, emptied.calls) = (fresh.time, fresh.occupied, fresh.calls);
     for (customer, record) in emptied.customers.iter_mut().zip(&fresh.customers) {
         (customer.endpoints, customer.places) = (record.endpoints, record.places);
     }

@@ -85,10 +85,11 @@ pub fn again(table: &Table, roster: &[u8]) -> Result<(), String> {
     Ok(())
 }
 
-/// The table as it has to come back: own identifiers from 1, taken places first.
+/// The table as it has to come back: own identifiers from 1, the time at the latest refresh, taken places first.
 fn closed_up(table: &Table) -> Table {
     let mut table = *table;
     table.next = 1;
+    table.time = table.calls.iter().map(|call| call.refreshed).max().unwrap_or(0);
     for call in &mut table.calls {
         call.places.sort_by_key(|place| !is_taken(place));
     }

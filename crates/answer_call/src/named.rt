@@ -23,8 +23,9 @@ use outcomes::outcome::Outcome;
 use table::layout::Words;
 use update_call::slots::close_slot;
 use update_call::slots::open_named;
+use update_call::slots::refresh_slot;
 
-// 21, 31, 30, 34, 20. The rules hold and the sender is listed, so that a call that may be opened has a free slot. The request
+// 21, which refreshes the call; 31, 30, 34, 20. The rules hold and the sender is listed, so that a call that may be opened has a free slot. The request
 // has a name.
 pub fn open_call(t: &mut Words, msg: &[u8], q: CallRequest, reply: &mut [u8]) -> Outcome
     requires { ⌜ (rulesHold (tableOf (now t)) ≡ true) × (isListed (roster (tableOf (now t))) (q .sender) ≡ true) × CallInside (now msg) q × (0 < q .name .size) × (leastBuffer ≤ length (now reply)) ⌝ }
@@ -32,6 +33,7 @@ pub fn open_call(t: &mut Words, msg: &[u8], q: CallRequest, reply: &mut [u8]) ->
 {
     let k = look_up(t, msg, q);
     if k.known {
+        refresh_slot(t, k.slot);
         return notified(t, msg, q, C, Answer::CallAlreadyOpen, reply);
     }
     if k.long {

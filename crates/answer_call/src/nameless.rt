@@ -12,6 +12,7 @@ ghost use Rattle.table.specs.Lists.{roster, callAt, idsOf};
 ghost use Rattle.table.specs.Share.{isListed};
 ghost use Rattle.table.specs.Rules.{rulesHold};
 ghost use Rattle.table.specs.Words.{tableOf};
+ghost use Rattle.spec_changes.specs.Calls.{refreshedAt};
 ghost use Rattle.answers.specs.declared.answer.Answer.the-variants.{CallAlreadyOpen};
 ghost use Rattle.outcomes.specs.Outcomes.{handedBack, ruled};
 ghost use Rattle.answer_call.specs.Notified.{madeBytes, Notified};
@@ -32,6 +33,7 @@ use table::layout::Words;
 use table_words::calls::call_head;
 use table_words::names::name_byte;
 use update_call::slots::open_made;
+use update_call::slots::refresh_slot;
 
 // All 32 bytes of a slot's name. Whoever asks says why the slot is one of the table's.
 fn slot_name(t: &Words, i: usize) -> [u8; 32]
@@ -47,7 +49,7 @@ fn slot_name(t: &Words, i: usize) -> [u8; 32]
     name
 }
 
-// 21, with the IDs of the call in a used slot: the rules hold, so that they fit their fields.
+// 21, with the IDs of the call in a used slot, which is refreshed: the rules hold, so that they fit their fields.
 fn answered_again(
     t: &mut Words,
     msg: &[u8],
@@ -56,11 +58,12 @@ fn answered_again(
     reply: &mut [u8],
 ) -> Outcome
     requires { ⌜ (rulesHold (tableOf (now t)) ≡ true) × (slot < slots) × (isUsed (tableOf (now t) .occupied) slot ≡ true) × CallInside (now msg) q × (leastBuffer ≤ length (now reply)) ⌝ }
-    ensures { λ r. ⌜ Notified (tableOf (now (t .entry))) (madeBytes (tableOf (now (t .entry))) (now (msg .entry)) q CallAlreadyOpen (idsOf (callAt (tableOf (now (t .entry))) slot) .short) (idsOf (callAt (tableOf (now (t .entry))) slot) .long)) CallAlreadyOpen (now (reply .entry)) r (tableOf (now (t .exit))) (now (reply .exit)) ⌝ }
+    ensures { λ r. ⌜ Notified (refreshedAt (tableOf (now (t .entry))) slot) (madeBytes (tableOf (now (t .entry))) (now (msg .entry)) q CallAlreadyOpen (idsOf (callAt (tableOf (now (t .entry))) slot) .short) (idsOf (callAt (tableOf (now (t .entry))) slot) .long)) CallAlreadyOpen (now (reply .entry)) r (tableOf (now (t .exit))) (now (reply .exit)) ⌝ }
 {
     let c = call_head(t, slot);
     let name = slot_name(t, slot);
     let call = c.id.0 as u16;
+    refresh_slot(t, slot);
     notified_made(
         t,
         msg,

@@ -2,14 +2,18 @@
 // caller lends the table, and the node works in it in place. include/chaffmoor.h declares them.
 ghost use mathlib.Core.Path.{_≡_};
 ghost use lib.Dec.{eqb};
+ghost use lib.ListN.{length};
+ghost use Rattle.numbers.specs.Buffer.{atFront};
 ghost use Rattle.table.specs.Roster.{rosterNumber, rosterAnswer, tableFor};
 ghost use Rattle.table.specs.Words.{tableOf};
+ghost use Rattle.spec_changes.specs.Expiry.{closingWords};
 ghost use Rattle.answers.specs.Answers.{answerNumber};
 ghost use Rattle.spec_calls.specs.Handling.{handled};
 ghost use Rattle.spec_checkpoint.specs.Restored.{written, restored};
 use answers::answer::number;
 use checkpoint_read::read_checkpoint;
 use checkpoint_write::write_checkpoint;
+use expiry::Closings;
 use node::handle::handle;
 use rosters::read_roster;
 use table::answer::roster_number;
@@ -19,6 +23,7 @@ use table::layout::Words;
 pub struct MessageReply {
     pub answer: u8,
     pub length: usize,
+    pub closed: usize,
 }
 
 #[repr(C)]
@@ -42,20 +47,25 @@ pub extern "C" fn chaffmoor_read_roster(table: &mut Words, roster: &[u8]) -> u8
     roster_number(read_roster(table, roster))
 }
 
-// Handles a message: any table, any bytes, any buffer.
+// Handles a message: any table, any bytes, any buffer, time and period. The closings' front lists the calls that were
+// closed before it, slot and address in turn.
 #[no_mangle]
 pub extern "C" fn chaffmoor_handle(
     table: &mut Words,
     message: &[u8],
     reply: &mut [u8],
+    time: u32,
+    period: u32,
+    closings: &mut Closings,
 ) -> MessageReply
-    ensures { λ r. ⌜ (r .answer ≡ answerNumber (handled (tableOf (now (table .entry))) (now (message .entry)) (now (reply .entry)) .answer)) × (r .length ≡ handled (tableOf (now (table .entry))) (now (message .entry)) (now (reply .entry)) .length) × (tableOf (now (table .exit)) ≡ handled (tableOf (now (table .entry))) (now (message .entry)) (now (reply .entry)) .table) × (now (reply .exit) ≡ handled (tableOf (now (table .entry))) (now (message .entry)) (now (reply .entry)) .buffer) ⌝ }
+    ensures { λ r. ⌜ (r .answer ≡ answerNumber (handled (tableOf (now (table .entry))) (now (message .entry)) (now (reply .entry)) time period .answer)) × (r .length ≡ handled (tableOf (now (table .entry))) (now (message .entry)) (now (reply .entry)) time period .length) × (r .closed ≡ length (handled (tableOf (now (table .entry))) (now (message .entry)) (now (reply .entry)) time period .closings)) × (tableOf (now (table .exit)) ≡ handled (tableOf (now (table .entry))) (now (message .entry)) (now (reply .entry)) time period .table) × (now (reply .exit) ≡ handled (tableOf (now (table .entry))) (now (message .entry)) (now (reply .entry)) time period .buffer) × (now (closings .exit) ≡ atFront (closingWords (handled (tableOf (now (table .entry))) (now (message .entry)) (now (reply .entry)) time period .closings)) (now (closings .entry))) ⌝ }
 {
-    let r = handle(table, message, reply);
+    let r = handle(table, message, reply, time, period, closings);
     let answer = r.answer;
     MessageReply {
         answer: number(answer),
         length: r.length,
+        closed: r.closed,
     }
 }
 

@@ -15,6 +15,7 @@ use Rattle.spec_checkpoint.specs.Restored.{badSize, fromCheckpoint, restored}
 use Rattle.checkpoint_cases.specs.Twins.{rows, RowsHold}
 use Rattle.checkpoint_cases.specs.Outside.{underForm1, underForm2, OutsideHold}
 use Rattle.checkpoint_cases.specs.Requests.{numberRows, markRows, SharedNumbers, MarksDecide}
+use Rattle.checkpoint_cases.specs.Refreshes.{timeRows, TimesHold}
 
 pub rows-hold : RowsHold
 unfolding rows withSet isUsed withUsed atFront zerosAt elementIf listIf below everyBelow firstBelow noCall noCustomer emptyTable S badShare acceptable rosterHolds sameBytes sameShort sameLong sameRequest validIds sameLsp placeClear placeValid callFreeClear callClear customerFreeClear customerClear rulesHold guaranteeIn limitIn spareIn badForm recordsAnswer rosterAnswer customersFrom freshTable tableFor addedUnder addedStandalone added soundAlone namedBy keptByLongId callFits withCalls connectionFits withConnections salvaged badSize fromCheckpoint restored
@@ -31,3 +32,7 @@ shared-numbers = refl
 pub marks-decide : MarksDecide
 unfolding markRows withSet isUsed withUsed atFront zerosAt elementIf listIf below everyBelow firstBelow noCall noCustomer emptyTable S badShare acceptable rosterHolds sameBytes sameShort sameLong sameRequest validIds sameLsp placeClear placeValid callFreeClear callClear customerFreeClear customerClear rulesHold guaranteeIn limitIn spareIn badForm recordsAnswer rosterAnswer customersFrom freshTable tableFor addedUnder addedStandalone added soundAlone namedBy keptByLongId callFits withCalls connectionFits withConnections salvaged badSize fromCheckpoint restored
 marks-decide = refl
+
+pub times-hold : TimesHold
+unfolding timeRows withSet isUsed withUsed atFront zerosAt elementIf listIf below everyBelow firstBelow noCall noCustomer emptyTable S badShare acceptable rosterHolds sameBytes sameShort sameLong sameRequest validIds sameLsp placeClear placeValid callFreeClear callClear customerFreeClear customerClear rulesHold guaranteeIn limitIn spareIn badForm recordsAnswer rosterAnswer customersFrom freshTable tableFor addedUnder addedStandalone added soundAlone namedBy keptByLongId callFits withCalls connectionFits withConnections salvaged badSize fromCheckpoint restored
+times-hold = refl

@@ -2,3 +2,4 @@ pub mod Twins
 pub mod Outside
 pub mod Requests
 pub mod Copy
+pub mod Refreshes

@@ -14,7 +14,7 @@ abbrev pub rosterBytes2 : List ℕ
 rosterBytes2 = 0x21 ∷ bytes32 end ++ (0 ∷ 0 ∷ 7 ∷ []) ++ bytes32 X ++ (1 ∷ 2 ∷ [])
 
 abbrev outside : List ℕ
-outside = headBytes 1 1 ++ callBytes 64 (stored (call 5)) ++ connectionBytes (connection 5 1)
+outside = headBytes 1 1 ++ callBytes 64 (stored 0 (call 5)) ++ connectionBytes (connection 5 1)
 
 unfoldable pub underForm1 : List ReadingCase
 underForm1 =

@@ -12,7 +12,7 @@ use Rattle.checkpoint_cases.specs.Twins.{ReadingCase, X, end, rosterByte
 abbrev callOf : ℕ → ℕ → Bool → ℕ → ℕ → List ℕ
 callOf slot endpoint made epoch identifier =
     callBytes slot
-    (stored
+    (stored 0
     (record {
       ids = record { endpoint = endpoint; sender = X; short = slot + 1; long = (slot + 97) ∷ [] };
       made = made;

@@ -45,7 +45,7 @@ call short = record {
 
 -- the call under one short ID in slot 0, under another in slot 1
 abbrev twins : ℕ → ℕ → List ℕ
-twins first second = callBytes 0 (stored (call first)) ++ callBytes 1 (stored (call second))
+twins first second = callBytes 0 (stored 0 (call first)) ++ callBytes 1 (stored 0 (call second))
 
 -- a connection by its Call ID and Tunnel ID
 abbrev pub connection : ℕ → ℕ → Held

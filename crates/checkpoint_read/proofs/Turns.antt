@@ -17,11 +17,10 @@ use Rattle.table.specs.Lists.{entries, Held, held}
 use Rattle.table.specs.Rules.{holds, slotsWithinTotal, rulesHold}
 use Rattle.spec_changes.specs.Shape.{Shape}
 use Rattle.spec_changes.specs.Connections.{added}
-use Rattle.spec_changes.proofs.Opened.{used-shape}
 use Rattle.spec_changes.proofs.Tables.{added-words, added-form}
 use Rattle.spec_checkpoint.specs.Layout.{callRecord, connectionRecord, heldAtByte}
 use Rattle.spec_checkpoint.specs.Salvage.{placed, keptByLongId, callFits, callKept, withCalls, connectionFits, connectionKept, withConnections}
-use Rattle.spec_checkpoint.proofs.Part.{record-bare, placed-held}
+use Rattle.spec_checkpoint.proofs.Part.{record-bare, placed-shape, placed-held}
 use Rattle.spec_checkpoint.proofs.Salvaged.{kept-inside}
 use Rattle.checkpoint_chains.specs.declared.Factors.{Factors}
 use Rattle.checkpoint_connections.specs.Cells.{CallsInCells, TableInCells}
@@ -78,7 +77,7 @@ calls-held fresh s h (suc i) = by (callKept fresh t s i) refl (calls-held fresh 
         let m = both (keptByLongId fresh s i) (callFits t r) e in
         let inside = kept-inside fresh s i (m .0) in
         let was = not-true (isUsed (t .occupied) (r .slot)) (both (not (isUsed (t .occupied) (r .slot))) (rulesHold (placed t r)) (m .1) .0) in
-        (used-shape t (r .slot) (r .call) (k .0) inside refl, λ p. placed-held t r (k .0 .calls) (k .0 .words .four) inside was (record-bare s i) p ∙ k .1 p)
+        (placed-shape t r (k .0) inside refl, λ p. placed-held t r (k .0 .calls) (k .0 .words .four) inside was (record-bare s i) p ∙ k .1 p)
     by false e k = k
 
 no-held : (l : List Held) → countIf (λ x. true) l ≡ 0 → l ≡ []

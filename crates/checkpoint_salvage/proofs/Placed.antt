@@ -7,12 +7,13 @@ use Rattle.table.specs.Table.{Call, Table}
 use Rattle.table.specs.Word.{isUsed, withUsed}
 use Rattle.table.specs.Rules.{rulesHold}
 use Rattle.table.specs.Stores.{withSlot, withOccupied}
+use Rattle.spec_changes.specs.Expiry.{raised}
 use Rattle.spec_checkpoint.specs.Layout.{Slotted}
 use Rattle.spec_checkpoint.specs.Salvage.{placed, callFits}
 
-pub placed-by : (t u v : Table) (r : Slotted) (slot : ℕ) (c : Call) → slot ≡ r .slot → c ≡ r .call → u ≡ withSlot t (t .occupied) slot c
+pub placed-by : (t w u v : Table) (r : Slotted) (slot : ℕ) (c : Call) → slot ≡ r .slot → c ≡ r .call → w ≡ raised t (c .refreshed) → u ≡ withSlot w (w .occupied) slot c
     → v ≡ withOccupied u (withUsed (u .occupied) slot) → v ≡ placed t r
-placed-by t u v r slot c s e f g = rw (g, f, e, s)
+placed-by t w u v r slot c s e d f g = rw (g, f, d, e, s)
 
 -- what is left of the table t where the call is kept, and where it does not fit
 module _ (t : Table) (r : Slotted) (best fits : Bool) where

@@ -3,7 +3,7 @@
 use Prim.Native.Nat.{ℕ, zero, suc, _+_, _-_, _*_, _/_, _%_, _≤_, _<_}
 use native.Mathlib.Nat.{add-assoc}
 use native.Mathlib.Omega.{arith}
-use mathlib.Core.Path.{_≡_, refl, sym, ap}
+use mathlib.Core.Path.{_≡_, refl, sym}
 use mathlib.Core.Logic.{_≢_}
 use mathlib.Core.List.{List}
 use mathlib.Core.Bool.{Bool, true, false, cond, not, _&&_, _||_, and-true, and-false}
@@ -40,13 +40,9 @@ mark-decides made epoch identifier m e = by (eqb made 1) refl
     by false q = let none : made ≢ 1 = eqb-false made 1 q in rw (eq-eqb made 0 (omega arith))
 
 pub request-is : (s : List ℕ) (i mark : ℕ) → mark ≡ getD s (4 + 55 * i + 11) 0 → mark ≤ 255 → Bytes s
-    → (eqb (be32At s (4 + 55 * i + 44)) 0
-    && (eqb (mark / 128) 1 || (eqb (be24At s (4 + 55 * i + 48)) 0 && eqb (be32At s (4 + 55 * i + 51)) 0)))
-    ≡ requestTidy (callRecord s i .call)
+    → (eqb (mark / 128) 1 || (eqb (be24At s (4 + 55 * i + 48)) 0 && eqb (be32At s (4 + 55 * i + 51)) 0)) ≡ requestTidy (callRecord s i .call)
 request-is s i mark is most bytes =
-    rw (← is)
-    (ap (λ b. eqb (be32At s (4 + 55 * i + 44)) 0 && b)
-    (mark-decides (mark / 128) (be24At s (4 + 55 * i + 48)) (be32At s (4 + 55 * i + 51)) (omega arith) (be24-bound s (4 + 55 * i + 48) bytes)))
+    rw (← is) (mark-decides (mark / 128) (be24At s (4 + 55 * i + 48)) (be32At s (4 + 55 * i + 51)) (omega arith) (be24-bound s (4 + 55 * i + 48) bytes))
 
 -- ---- a record's numbers
 

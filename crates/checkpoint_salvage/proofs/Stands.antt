@@ -22,6 +22,7 @@ use Rattle.table.specs.Rules.{sameRequest, validIds, callFreeClear, rulesHold}
 use Rattle.table.proofs.Names.{alike}
 use Rattle.table.proofs.Slots.{used-here}
 use Rattle.table.proofs.Within.{total-most}
+use Rattle.spec_changes.specs.Expiry.{raised}
 use Rattle.spec_changes.proofs.Kept.{Kept, MayOpen, calls-open, calls-opened}
 use Rattle.spec_changes.proofs.Told.{roster-kept, rules-kept, kept-rules}
 use Rattle.spec_changes.proofs.Slot.{call-here}
@@ -122,7 +123,7 @@ module _ (t : Table) (r : Slotted) (long : slots ≤ length (t .calls)) (four : 
       let k = rules-kept (placed t r) h in
       let m = calls-opened (totalOf t) (roster t) (entries t) (entries (placed t r)) (recordEntry r) (roster-kept t (kept .accepted) .apart) (placed-entries t r long four inside was none) (k .calls) in
       let used = used-here (t .occupied) (r .slot) (omega (arith, inside)) in
-      let here = call-here t (withUsed (t .occupied) (r .slot)) (r .slot) (r .call) inside long in
+      let here = call-here (raised t (r .call .refreshed)) (withUsed (t .occupied) (r .slot)) (r .slot) (r .call) inside long in
       rw (
         rw here at (k .names (r .slot) inside used),
         rw (used, here) at (k .slots (r .slot) inside),

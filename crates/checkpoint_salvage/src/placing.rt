@@ -17,6 +17,7 @@ ghost use Rattle.spec_checkpoint.specs.Layout.{recordEntry, callRecord};
 ghost use Rattle.spec_checkpoint.specs.Salvage.{placed, soundAlone, callFits};
 use checkpoint_records::read::record_slot;
 use checkpoint_records::read::record_words;
+use expiry::raise_time;
 use find_call::request::look_up;
 use find_call::share::listing_of;
 use find_call::share::share_used_up;
@@ -32,6 +33,7 @@ use objects::fields::Part;
 use occupancy::is_used;
 use occupancy::mark_used;
 use occupancy::used_below;
+use table::layout::REFRESHED;
 use table::layout::Words;
 use table::total::total_for;
 use table_words::calls::call_head;
@@ -39,18 +41,19 @@ use table_words::calls::put_slot;
 use table_words::head::form;
 use table_words::ids::is_call;
 
-// Record i's call in the slot that it names, one of the table's.
+// Record i's call in the slot that it names, one of the table's. No refresh lies after the node's time.
 fn place(t: &mut Words, s: &[u8], i: usize, slot: usize)
     requires { ⌜ (4 + 55 * i + 55 ≤ length (now s)) × (slot ≡ callRecord (now s) i .slot) × (slot < slots) ⌝ }
     ensures { λ _. ⌜ tableOf (now (t .exit)) ≡ placed (tableOf (now (t .entry))) (callRecord (now (s .entry)) i) ⌝ }
 {
     let call = record_words(s, i);
+    raise_time(t, call[REFRESHED]);
     put_slot(t, slot, &call);
     mark_used(t, slot)
 }
 
 // Record i has a request's numbers only where it has the mark, the top bit above the name's length, of a call that the node
-// made. Three bytes hold no epoch that is too large. The last refresh is not in use yet.
+// made. Three bytes hold no epoch that is too large.
 fn request_tidy(s: &[u8], i: usize) -> bool
     requires { ⌜ 4 + 55 * i + 55 ≤ length (now s) ⌝ }
     ensures { λ b. ⌜ b ≡ requestTidy (callRecord (now (s .entry)) i .call) ⌝ }
@@ -58,7 +61,7 @@ fn request_tidy(s: &[u8], i: usize) -> bool
     let at = 4 + 55 * i;
     let made = to_usize(s[at + 11]) / 128 == 1;
     let none = (get24(s, at + 48) == 0) & (get32(s, at + 51) == 0);
-    (get32(s, at + 44) == 0) & (made | none)
+    made | none
 }
 
 // Record i's numbers are those of a call: a Call ID other than 0, a name of 1 to 32 bytes that ends in a byte that is

@@ -11,14 +11,17 @@ ghost use Rattle.table.specs.Share.{isListed};
 ghost use Rattle.table.specs.Rules.{rulesHold};
 ghost use Rattle.table.specs.Words.{tableOf};
 ghost use Rattle.spec_calls.specs.Form.{senderOf};
-ghost use Rattle.spec_calls.specs.Handling.{handled};
+ghost use Rattle.spec_calls.specs.Handling.{answeredIn, handled};
 ghost use Rattle.outcomes.specs.Outcomes.{handedBack, ruled};
+ghost use Rattle.node.specs.Handed.{Handed};
 use answer_call::named::close_call;
 use answer_call::named::open_call;
 use answer_call::nameless::open_nameless;
 use answer_connection::add_connection;
 use answer_connection::drop_connection;
 use answers::answer::Answer;
+use expiry::Closings;
+use expiry::elapse;
 use find_call::share::listing_of;
 use messages::message::CallRequest;
 use messages::message::Message;
@@ -65,14 +68,12 @@ fn handle_message(t: &mut Words, msg: &[u8], m: Message, reply: &mut [u8]) -> Ou
     }
 }
 
-// The tests from 2 on: for a table that keeps the rules, as a Bundle's messages will find it.
+// The tests from 3 on: for a table that keeps the rules, after the closings, and a buffer with answer 2's room, as a
+// Bundle's messages will find them.
 fn handle_checked(t: &mut Words, msg: &[u8], reply: &mut [u8]) -> Outcome
-    requires { ⌜ rulesHold (tableOf (now t)) ≡ true ⌝ }
-    ensures { λ r. ⌜ handedBack r (tableOf (now (t .exit))) (now (reply .exit)) ≡ handled (tableOf (now (t .entry))) (now (msg .entry)) (now (reply .entry)) ⌝ }
+    requires { ⌜ (rulesHold (tableOf (now t)) ≡ true) × (leastBuffer ≤ length (now reply)) ⌝ }
+    ensures { λ r. ⌜ handedBack r (tableOf (now (t .exit))) (now (reply .exit)) ≡ answeredIn (tableOf (now (t .entry))) (now (msg .entry)) (now (reply .entry)) ⌝ }
 {
-    if reply.len() < LEAST_BUFFER {
-        return unanswered(Answer::BufferTooSmall);
-    }
     let x = read(msg);
     match x {
         Reading::Refused {
@@ -101,12 +102,49 @@ fn handle_checked(t: &mut Words, msg: &[u8], reply: &mut [u8]) -> Outcome
     }
 }
 
-// Handles a message: any table, any bytes, any buffer.
-pub fn handle(t: &mut Words, msg: &[u8], reply: &mut [u8]) -> Outcome
-    ensures { λ r. ⌜ handedBack r (tableOf (now (t .exit))) (now (reply .exit)) ≡ handled (tableOf (now (t .entry))) (now (msg .entry)) (now (reply .entry)) ⌝ }
+// What handling a message gives back: the answer, the reply's length, 0 where none is sent, and how many calls were closed
+// before the message.
+pub struct Handling {
+    pub answer: Answer,
+    pub length: usize,
+    pub closed: usize,
+}
+
+// 1 and 2: nothing is sent, closed or changed.
+fn at_once(a: Answer) -> Handling
+    ensures { λ r. ⌜ r ≡ record { answer = a; length = 0; closed = 0 } ⌝ }
 {
-    if rules_hold(t) {
-        return handle_checked(t, msg, reply);
+    Handling {
+        answer: a,
+        length: 0,
+        closed: 0,
     }
-    unanswered(Answer::TableBroken)
+}
+
+// Handles a message: any table, any bytes, any buffer, time and period. The row's front lists the calls that were closed
+// before the message, slot and address in turn; its words behind them are as they were.
+pub fn handle(
+    t: &mut Words,
+    msg: &[u8],
+    reply: &mut [u8],
+    at: u32,
+    period: u32,
+    closings: &mut Closings,
+) -> Handling
+    ensures { λ r. ⌜ Handed (handled (tableOf (now (t .entry))) (now (msg .entry)) (now (reply .entry)) at period) (now (closings .entry)) r (tableOf (now (t .exit))) (now (reply .exit)) (now (closings .exit)) ⌝ }
+{
+    if !rules_hold(t) {
+        return at_once(Answer::TableBroken);
+    }
+    if reply.len() < LEAST_BUFFER {
+        return at_once(Answer::BufferTooSmall);
+    }
+    let closed = elapse(t, at, period, closings);
+    let r = handle_checked(t, msg, reply);
+    let answer = r.answer;
+    Handling {
+        answer,
+        length: r.length,
+        closed,
+    }
 }

@@ -1,7 +1,7 @@
 -- What handling comes to, by the test that decides: the table's rules, the form, or the message's kind.
 -- Assumes nothing.
 use Prim.Native.Nat.{ℕ, _≤_, _<_}
-use mathlib.Core.Path.{_≡_, refl}
+use mathlib.Core.Path.{_≡_, refl, ap}
 use mathlib.Core.List.{List, []}
 use mathlib.Core.Bool.{true, false}
 use lib.ListN.{length}
@@ -20,7 +20,8 @@ use Rattle.table.specs.Rules.{rulesHold}
 use Rattle.answers.specs.declared.answer.Answer.{Answer}
 use Rattle.answers.specs.declared.answer.Answer.the-variants.{TableBroken, BufferTooSmall, Malformed, SenderNotListed}
 use Rattle.spec_calls.specs.Form.{Form, faulty, sound, senderOf, listedOr11, formOf}
-use Rattle.spec_calls.specs.Handling.{answerOf, formTable, tableAfter, formReply, replyAfter, handled}
+use Rattle.spec_changes.specs.Expiry.{raised, closingsOf, elapsed}
+use Rattle.spec_calls.specs.Handling.{formTable, tableAfter, formReply, replyAfter, answeredAs, answeredIn, handledAfter, handled}
 use Rattle.outcomes.specs.Outcomes.{left, ruled}
 
 -- 1 changes nothing, whatever the message is
@@ -38,24 +39,37 @@ broken-reply t s (sound (Close q)) = refl
 broken-reply t s (sound (Add c)) = refl
 broken-reply t s (sound (Drop c)) = refl
 
-module _ (t : Table) (s buffer : List ℕ) where
-  pub handled-broken : rulesHold t ≡ false → handled t s buffer ≡ left t buffer TableBroken
-  unfolding answerOf tableAfter replyAfter atFront
-  handled-broken h = rw (h, broken-table t s (formOf (roster t) s (length buffer)), broken-reply t s (formOf (roster t) s (length buffer)))
-
-  pub handled-faulty : (a : Answer) → rulesHold t ≡ true → formOf (roster t) s (length buffer) ≡ faulty a → handled t s buffer ≡ left t buffer a
-  unfolding answerOf tableAfter replyAfter atFront
-  handled-faulty a h e = rw (h, e)
-
-  pub handled-sound : (m : Message) → rulesHold t ≡ true → formOf (roster t) s (length buffer) ≡ sound m → handled t s buffer ≡ ruled t s buffer m
-  unfolding answerOf tableAfter replyAfter
-  handled-sound m h e = rw (h, e)
-
--- ---- the form, by what the message is read as
-
 pub form-small : (r : List Terms) (s : List ℕ) (room : ℕ) → room < leastBuffer → formOf r s room ≡ faulty BufferTooSmall
 unfolding formOf
 form-small r s room h = rw (lt-ltb room leastBuffer h)
+
+module _ (t : Table) (s buffer : List ℕ) where
+  answered-broken : answeredAs t s buffer TableBroken ≡ left t buffer TableBroken
+  unfolding tableAfter replyAfter atFront
+  answered-broken = rw (broken-table t s (formOf (roster t) s (length buffer)), broken-reply t s (formOf (roster t) s (length buffer)))
+
+  pub answered-faulty : (a : Answer) → formOf (roster t) s (length buffer) ≡ faulty a → answeredIn t s buffer ≡ left t buffer a
+  unfolding tableAfter replyAfter atFront
+  answered-faulty a e = rw e
+
+  pub answered-sound : (m : Message) → formOf (roster t) s (length buffer) ≡ sound m → answeredIn t s buffer ≡ ruled t s buffer m
+  unfolding tableAfter replyAfter
+  answered-sound m e = rw e
+
+  -- ---- the whole: 1, 2, and any other message in the table after the closings (02, A7)
+
+  module _ (time period : ℕ) where
+    pub handled-broken : rulesHold t ≡ false → handled t s buffer time period ≡ handledAfter [] (left t buffer TableBroken)
+    handled-broken h = rw h (ap (handledAfter []) answered-broken)
+
+    pub handled-small : rulesHold t ≡ true → length buffer < leastBuffer → handled t s buffer time period ≡ handledAfter [] (left t buffer BufferTooSmall)
+    handled-small h k = rw (h, lt-ltb (length buffer) leastBuffer k) (ap (handledAfter []) (answered-faulty BufferTooSmall (form-small (roster t) s (length buffer) k)))
+
+    pub handled-elapsed : rulesHold t ≡ true → leastBuffer ≤ length buffer
+        → handled t s buffer time period ≡ handledAfter (closingsOf (raised t time) period) (answeredIn (elapsed t time period) s buffer)
+    handled-elapsed h k = rw (h, le-ltb (length buffer) leastBuffer k)
+
+-- ---- the form, by what the message is read as
 
 module _ (r : List Terms) (s : List ℕ) (room : ℕ) (h : leastBuffer ≤ room) where
   pub form-refused : (fault : Fault) (offset headers : ℕ) → readOf s ≡ Refused fault offset headers → formOf r s room ≡ faulty (Malformed fault)

@@ -33,6 +33,7 @@ taking s k = record {
   address = 0;
   epoch = 0;
   next = 1;
+  time = 0;
   listed = 0;
   form = 0;
   occupied = replicate 4 0;

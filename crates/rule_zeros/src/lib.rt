@@ -1,13 +1,13 @@
-// The rules on names and Call IDs, and that what is free holds zeros.
+// The rules on names, Call IDs and refreshes, and that what is free holds zeros.
 ghost use mathlib.Core.Path.{_≡_};
 ghost use mathlib.Core.Bool.{cond, _&&_, _||_};
 ghost use Prim.Native.Nat.{_<_};
-ghost use lib.Dec.{eqb, ltb};
+ghost use lib.Dec.{eqb, ltb, leb};
 ghost use Rattle.lists.specs.Below.{everyBelow};
 ghost use Rattle.table.specs.Total.{slots};
 ghost use Rattle.table.specs.Word.{isUsed};
 ghost use Rattle.table.specs.Lists.{callAt, customerAt, placeAt, isTaken};
-ghost use Rattle.table.specs.Rules.{validIds, callFreeClear, callClear, customerFreeClear, customerClear, slotFreeClear, recordFreeClear, holds, namesAndIds, freeHoldsZeros};
+ghost use Rattle.table.specs.Rules.{validIds, callFreeClear, callClear, customerFreeClear, customerClear, slotFreeClear, recordFreeClear, holds, namesAndIds, refreshesPast, freeHoldsZeros};
 ghost use Rattle.table.specs.Words.{tableOf};
 ghost use Rattle.table_words.specs.Fours.{fourAtWord, FourInside};
 ghost use Rattle.rule_zeros.specs.Masks.{pastMasks};
@@ -31,55 +31,58 @@ use table_words::fours::customer_four;
 use table_words::fours::endpoint_at;
 use table_words::fours::place_words;
 use table_words::head::listed;
+use table_words::head::time;
 use table_words::ids::is_call_id;
 
 // What a call that the node made has of its request, and that any other has zeros there.
 fn request_tidy(c: CallHead) -> bool
-    ensures { λ r. ⌜ r ≡ (eqb (c .refreshed) 0 && cond (eqb (c .made) 1) (ltb (c .epoch) 0x1000000) (eqb (c .made) 0 && eqb (c .epoch) 0 && eqb (c .identifier) 0)) ⌝ }
+    ensures { λ r. ⌜ r ≡ cond (eqb (c .made) 1) (ltb (c .epoch) 0x1000000) (eqb (c .made) 0 && eqb (c .epoch) 0 && eqb (c .identifier) 0) ⌝ }
 {
-    let unused = c.refreshed == 0;
     if c.made == 1 {
-        return unused & (c.epoch < 16777216);
+        return c.epoch < 16777216;
     }
-    unused & ((c.made == 0) & (c.epoch == 0) & (c.identifier == 0))
+    (c.made == 0) & (c.epoch == 0) & (c.identifier == 0)
 }
 
 // An open call: a name of 1 to 32 bytes that ends in a byte that is not zero, a Call ID of sixteen bits that is not 0,
-// zeros past the name and in the places that are not taken, and a request only where the node made the call.
-fn call_tidy(masks: &[u32; 64], t: &Words, i: usize) -> bool
+// no refresh after the node's time, zeros past the name and in the places that are not taken, and a request only where the
+// node made the call.
+fn call_tidy(masks: &[u32; 64], t: &Words, time: u32, i: usize) -> bool
     requires { ⌜ (i < slots) × (now masks ≡ pastMasks) ⌝ }
-    ensures { λ r. ⌜ r ≡ (validIds (callAt (tableOf (now (t .entry))) i) && callFreeClear (callAt (tableOf (now (t .entry))) i)) ⌝ }
+    ensures { λ r. ⌜ r ≡ (validIds (callAt (tableOf (now (t .entry))) i) && leb (callAt (tableOf (now (t .entry))) i .refreshed) time && callFreeClear (callAt (tableOf (now (t .entry))) i)) ⌝ }
 {
     let c = call_head(t, i);
     if (c.size == 0) | (32 < c.size) {
         return false;
     }
     is_call_id(c.id)
+        & (c.refreshed <= time)
         & ends_at(masks, t, i, c.size as usize)
         & request_tidy(c)
         & four_valid(t, call_four(t, i))
 }
 
-fn slot_tidy(masks: &[u32; 64], t: &Words, i: usize) -> bool
+fn slot_tidy(masks: &[u32; 64], t: &Words, time: u32, i: usize) -> bool
     requires { ⌜ (i < slots) × (now masks ≡ pastMasks) ⌝ }
-    ensures { λ r. ⌜ r ≡ cond (isUsed (tableOf (now (t .entry)) .occupied) i) (validIds (callAt (tableOf (now (t .entry))) i) && callFreeClear (callAt (tableOf (now (t .entry))) i)) (callClear (callAt (tableOf (now (t .entry))) i)) ⌝ }
+    ensures { λ r. ⌜ r ≡ cond (isUsed (tableOf (now (t .entry)) .occupied) i) (validIds (callAt (tableOf (now (t .entry))) i) && leb (callAt (tableOf (now (t .entry))) i .refreshed) time && callFreeClear (callAt (tableOf (now (t .entry))) i)) (callClear (callAt (tableOf (now (t .entry))) i)) ⌝ }
 {
     if is_used(t, i) {
-        return call_tidy(masks, t, i);
+        return call_tidy(masks, t, time, i);
     }
     call_clear(t, i)
 }
 
-// Names, IDs and zeros in one pass. The slots past the last used one are free: their words are tested in one row.
+// Names, IDs, refreshes and zeros in one pass. The slots past the last used one are free: their words are tested in one row.
 fn slots_tidy(t: &Words) -> bool
-    ensures { λ r. ⌜ r ≡ (holds namesAndIds (tableOf (now (t .entry))) && everyBelow (slotFreeClear (tableOf (now (t .entry)))) slots) ⌝ }
+    ensures { λ r. ⌜ r ≡ (holds namesAndIds (tableOf (now (t .entry))) && holds refreshesPast (tableOf (now (t .entry))) && everyBelow (slotFreeClear (tableOf (now (t .entry)))) slots) ⌝ }
 {
     let masks = PAST;
+    let time = time(t);
     let n = used_below(t);
     let mut tidy = true;
     let mut i: usize = 0;
     while i < n {
-        tidy = tidy & slot_tidy(&masks, t, i);
+        tidy = tidy & slot_tidy(&masks, t, time, i);
         i += 1;
     }
     tidy & calls_clear_from(t, n)
@@ -132,7 +135,7 @@ fn records_free_clear(t: &Words) -> bool
 }
 
 pub fn names_and_zeros(t: &Words) -> bool
-    ensures { λ r. ⌜ r ≡ (holds namesAndIds (tableOf (now (t .entry))) && holds freeHoldsZeros (tableOf (now (t .entry)))) ⌝ }
+    ensures { λ r. ⌜ r ≡ (holds namesAndIds (tableOf (now (t .entry))) && holds refreshesPast (tableOf (now (t .entry))) && holds freeHoldsZeros (tableOf (now (t .entry)))) ⌝ }
 {
     slots_tidy(t) & records_free_clear(t)
 }

@@ -29,7 +29,7 @@ unfolding madeName hexDigits hexDigit
 every-digit = refl
 
 abbrev inSlot : ℕ → Ids → Entry
-inSlot i c = entryOf i (stored (record { ids = c; made = false; request = record { epoch = 0; identifier = 0 } }))
+inSlot i c = entryOf i (stored 0 (record { ids = c; made = false; request = record { epoch = 0; identifier = 0 } }))
 
 -- a call of short ID 5 under the name made of 1, then n calls that the node made for the pair
 abbrev withMade : ℕ → List Entry

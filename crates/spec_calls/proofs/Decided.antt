@@ -162,6 +162,18 @@ module _ (total : ℕ) (r : List Terms) (l : List Entry) (s : List ℕ) (q : Cal
   open-says h = opens (isRetry l s q) (longTaken l s q) (shortTaken l s q) (shareUsedUp total r l (q .sender)) h
 
   -- a number that is none of an open's answers
+  -- 21 is given to a retry alone
+  pub again-says : is 21 (openAnswer total r l s q) ≡ true → isRetry l s q ≡ true
+  unfolding openAnswer
+  again-says = by (isRetry l s q) (longTaken l s q) (shortTaken l s q) (shareUsedUp total r l (q .sender))
+    where
+      by : (x y z w : Bool) → is 21 (openBy x y z w) ≡ true → x ≡ true
+      by true y z w h = refl
+      by false true z w h = cc
+      by false false true w h = cc
+      by false false false true h = cc
+      by false false false false h = cc
+
   pub open-never : (n : ℕ) → is n CallAlreadyOpen ≡ false → is n DuplicateCall ≡ false → is n CallIdContention ≡ false → is n NoShare ≡ false → is n CallOpened ≡ false
       → is n (openAnswer total r l s q) ≡ false
   unfolding openAnswer

@@ -1,6 +1,7 @@
 pub mod Decided
 pub mod Opening
 pub mod Answered
+pub mod AtOnce
 pub mod Nameless
 pub mod Sent
 pub mod Ruled

@@ -21,6 +21,9 @@ module _ (q : CallRequest) (n : nameless q ≡ false) where
   pub named-retry : (l : List Entry) (s : List ℕ) → isRetry l s q ≡ isOpen l (idsIn s q)
   named-retry l s = ap (λ b. has (λ e. cond b (isMadeBy q e) (isCall (idsIn s q) e)) l) n
 
+  pub named-slot : (t : Table) (s : List ℕ) → slotOf t (isNamedBy s q) ≡ slotOf t (isCall (idsIn s q))
+  named-slot t s = ap (λ b. slotOf t (λ e. cond b (isMadeBy q e) (isCall (idsIn s q) e))) n
+
   pub named-long : (l : List Entry) (s : List ℕ) → longTaken l s q ≡ longInUse l (idsIn s q)
   named-long l s = rw n
 

@@ -1,8 +1,9 @@
--- What handling a message means: from table, message and reply buffer, whatever they hold, to answer, table and buffer
--- afterwards. The answer is decided first; table and reply follow from it.
+-- What handling a message means: from table, message, reply buffer, time and period, whatever they hold, to answer,
+-- closings, table and buffer afterwards. The answer is decided first; table and reply follow from it.
 use Prim.Native.Nat.{ℕ, _+_}
 use mathlib.Core.List.{List, []}
 use mathlib.Core.Bool.{cond, not, _&&_}
+use lib.Dec.{ltb}
 use lib.ListN.{length}
 use Rattle.numbers.specs.Buffer.{atFront}
 use Rattle.objects.specs.declared.fields.MessageId.{MessageId}
@@ -14,13 +15,15 @@ use Rattle.messages.specs.Status.{callBit, deleteBit}
 use Rattle.replies.specs.declared.notify.Notify.{Notify}
 use Rattle.replies.specs.declared.path_err.PathErr.{PathErr}
 use Rattle.reply_objects.specs.declared.writers.ErrorSpec.{ErrorSpec}
+use Rattle.reply_objects.specs.Buffer.{leastBuffer}
 use Rattle.replies.specs.Messages.{notifyBytes, notifyMadeBytes, pathErrBytes}
 use Rattle.table.specs.Table.{Table}
 use Rattle.table.specs.Total.{totalOf}
 use Rattle.table.specs.Lists.{roster, Ids, callAt, idsOf, entries, held}
 use Rattle.table.specs.Rules.{rulesHold}
-use Rattle.spec_changes.specs.Calls.{opened, slotOf, closed, identifierTaken}
+use Rattle.spec_changes.specs.Calls.{opened, slotOf, closed, refreshedAt, identifierTaken}
 use Rattle.spec_changes.specs.Connections.{added, removed}
+use Rattle.spec_changes.specs.Expiry.{Closing, raised, closingsOf, elapsed}
 use Rattle.answers.specs.declared.answer.Answer.{Answer}
 use Rattle.answers.specs.declared.answer.Answer.the-variants.{TableBroken}
 use Rattle.answers.specs.Answers.{is, errorCode, errorValue, sendsNotify, sendsPathErr}
@@ -46,15 +49,14 @@ formAnswer t s (sound m) = ruleAnswer t s m
 abbrev pub answerFrom2 : Table → List ℕ → ℕ → Answer
 answerFrom2 t s room = formAnswer t s (formOf (roster t) s room)
 
--- 1 comes before all
-unfoldable pub answerOf : Table → List ℕ → ℕ → Answer
-answerOf t s room = cond (not (rulesHold t)) TableBroken (answerFrom2 t s room)
-
 -- ---- the table afterwards
 
--- 20, 22, 23 and 25 change calls or connections, and no other answer does
+-- 20, 22, 23 and 25 change calls or connections, and no other answer does; 21 refreshes its call (02, A7)
 abbrev pub changedBy : Table → List ℕ → Message → Answer → Table
-changedBy t s (Open q) a = cond (is 20 a) (opened t (newFor (entries t) s q)) t
+changedBy t s (Open q) a =
+    cond (is 20 a) (opened t (newFor (entries t) s q))
+    (cond (is 21 a) (refreshedAt t (slotOf t (isNamedBy s q)))
+    t)
 changedBy t s (Close q) a = cond (is 22 a) (closed t (idsIn s q)) t
 changedBy t s (Add c) a = cond (is 23 a) (added t (heldBy c)) t
 changedBy t s (Drop c) a = cond (is 25 a) (removed t (lspOf (c .lsp))) t
@@ -120,23 +122,45 @@ formReply t s (sound m) a = replyTo t s m a
 unfoldable pub replyAfter : Table → List ℕ → ℕ → Answer → List ℕ
 replyAfter t s room a = formReply t s (formOf (roster t) s room) a
 
--- ---- the whole
+-- ---- the message in the table that it finds
 
--- what the caller gets back: the answer, the reply's length, 0 where none is sent, the table and the buffer
-pub record Handled : Type 0 where
+-- its answer, the reply's length, 0 where none is sent, the table and the buffer
+pub record Answered : Type 0 where
   pub answer : Answer
   pub length : ℕ
   pub table : Table
   pub buffer : List ℕ
 
 -- the buffer holds the complete reply and behind it its old bytes, or exactly its old bytes
-abbrev pub handledAs : Table → List ℕ → List ℕ → Answer → Handled
-handledAs t s buffer a = record {
+abbrev pub answeredAs : Table → List ℕ → List ℕ → Answer → Answered
+answeredAs t s buffer a = record {
   answer = a;
   length = length (replyAfter t s (length buffer) a);
   table = tableAfter t s (length buffer) a;
   buffer = atFront (replyAfter t s (length buffer) a) buffer;
 }
 
-abbrev pub handled : Table → List ℕ → List ℕ → Handled
-handled t s buffer = handledAs t s buffer (answerOf t s (length buffer))
+-- from test 2 on
+abbrev pub answeredIn : Table → List ℕ → List ℕ → Answered
+answeredIn t s buffer = answeredAs t s buffer (answerFrom2 t s (length buffer))
+
+-- ---- the whole
+
+-- what the caller gets back: the same, and the calls that were closed before the message (02, A7)
+pub record Handled : Type 0 where
+  pub answer : Answer
+  pub length : ℕ
+  pub closings : List Closing
+  pub table : Table
+  pub buffer : List ℕ
+
+abbrev pub handledAfter : List Closing → Answered → Handled
+handledAfter closings a = record { answer = a .answer; length = a .length; closings = closings; table = a .table; buffer = a .buffer }
+
+-- 1 comes before all, and then 2: the table stays as it is, its time too, and nothing is closed. Any other message finds
+-- the table after the closings.
+abbrev pub handled : Table → List ℕ → List ℕ → ℕ → ℕ → Handled
+handled t s buffer time period =
+    cond (not (rulesHold t)) (handledAfter [] (answeredAs t s buffer TableBroken))
+    (cond (ltb (length buffer) leastBuffer) (handledAfter [] (answeredIn t s buffer))
+    (handledAfter (closingsOf (raised t time) period) (answeredIn (elapsed t time period) s buffer)))

@@ -1,6 +1,6 @@
 -- The table with a call closed: one entry less, the same connections, since the call had none, and every rule kept.
 -- Assumes nothing.
-use Prim.Native.Nat.{ℕ, _+_, _/_, _<_}
+use Prim.Native.Nat.{ℕ, _+_, _/_, _≤_, _<_}
 use native.Mathlib.Omega.{arith}
 use mathlib.Core.Path.{_≡_, refl, sym, _∙_}
 use mathlib.Core.List.{List}
@@ -17,14 +17,14 @@ use Rattle.table.specs.Total.{slots, totalOf}
 use Rattle.table.specs.Word.{isUsed, withFree}
 use Rattle.table.specs.Zeros.{noCall}
 use Rattle.table.specs.Lists.{roster, Ids, Entry, callAt, idsOf, entryOf, entries, Held, callFour, placeAt, isTaken, connectionAt, heldIn, held}
-use Rattle.table.specs.Rules.{rosterHolds, samePair, sameShort, sameLong, sameConnection}
+use Rattle.table.specs.Rules.{rosterHolds, samePair, sameShort, sameLong, validIds, sameConnection}
 use Rattle.table.proofs.Fresh.{free-clear}
 use Rattle.table.proofs.Slots.{free-here, free-other, free-fits}
 use Rattle.spec_changes.specs.Shape.{Shape}
-use Rattle.spec_changes.specs.Calls.{isCall, slotOf, closed}
+use Rattle.spec_changes.specs.Calls.{isCall, slotOf, freed, closed}
 use Rattle.spec_changes.specs.Connections.{isUnder}
 use Rattle.spec_changes.proofs.Kept.{Kept, calls-fewer}
-use Rattle.spec_changes.proofs.Slot.{found-slot, slot-entries, slot-held, slot-names, slot-within, slot-free-clear, slot-shape}
+use Rattle.spec_changes.proofs.Slot.{found-slot, slot-entries, slot-held, slot-each, slot-within, slot-free-clear, slot-shape}
 
 -- what stands in the slot of a call with this pair and short ID stands under the call
 stands-under : (c : Ids) (d : Call) → sameShort c (idsOf d) ≡ true → (j : ℕ) → isUnder c (connectionAt (callFour d) j) ≡ true
@@ -64,17 +64,17 @@ module _ (t : Table) (c : Ids) (s : Shape t) (h : 0 < countIf (isCall c) (entrie
   -- one entry less
   pub closed-entries : (p : Entry → Bool)
       → countIf p (entries t) ≡ bit (p (entryOf (slotOf t (isCall c)) (callAt t (slotOf t (isCall c))))) + countIf p (entries (closed t c))
-  unfolding closed
+  unfolding freed
   closed-entries p = omega (arith, (rw (was, is) at (slot-entries t words slot noCall inside (s .calls) other p)))
 
   pub closed-shape : Shape (closed t c)
-  unfolding closed noCall
+  unfolding freed noCall
   closed-shape = slot-shape t words slot noCall inside (s .calls) s (free-fits (t .occupied) slot (s .words) (omega (arith, inside))) refl
 
   -- the call has no connections: 32 comes before 22
   module _ (idle : countIf (isUnder c) (held t) ≡ 0) where
     emptied : (p : Held → Bool) → countIf p (held (closed t c)) + countIf p (heldIn (callFour (callAt t slot))) ≡ countIf p (held t) + 0
-    unfolding closed
+    unfolding freed
     emptied p = rw (was, is) at (slot-held t words slot noCall inside (s .calls) other p)
 
     nothing : (p : Held → Bool) → countIf p (heldIn (callFour (callAt t slot))) ≡ 0
@@ -95,13 +95,14 @@ module _ (t : Table) (c : Ids) (s : Shape t) (h : 0 < countIf (isCall c) (entrie
 
     -- every rule
     pub closed-kept : Kept t → Kept (closed t c)
-    unfolding closed rosterHolds
+    unfolding freed rosterHolds
     closed-kept k = record {
       accepted = k .accepted;
       within = slot-within t words slot noCall inside (s .calls) other (totalOf t) (k .within) (λ u. let z : true ≡ false = sym u ∙ is in absurd (true≢false z));
       calls = calls-fewer (totalOf t) (roster t) (entries (closed t c)) (entries t) (λ p. omega (arith, closed-entries p)) (k .calls);
       once = λ x. rw (closed-held (sameConnection x)) (k .once x);
-      names = slot-names t words slot noCall inside (s .calls) other (k .names) (λ u. let z = sym is ∙ u in cc);
+      names = slot-each t words slot noCall inside (s .calls) other (λ d. validIds d ≡ true) (k .names) (λ u. let z = sym is ∙ u in cc);
+      refreshes = slot-each t words slot noCall inside (s .calls) other (λ d. d .refreshed ≤ t .time) (k .refreshes) (λ u. let z : true ≡ false = sym u ∙ is in absurd (true≢false z));
       slots = slot-free-clear t words slot noCall inside (s .calls) other (k .slots) (rw is free-clear);
       records = k .records;
     }

@@ -42,6 +42,7 @@ pub record Kept (t : Table) : Type 0 where
   pub calls : CallsKept (totalOf t) (roster t) (entries t)
   pub once : (x : Held) → countIf (sameConnection x) (held t) ≤ 1
   pub names : (i : ℕ) → i < slots → isUsed (t .occupied) i ≡ true → validIds (callAt t i) ≡ true
+  pub refreshes : (i : ℕ) → i < slots → isUsed (t .occupied) i ≡ true → callAt t i .refreshed ≤ t .time
   pub slots : (i : ℕ) → i < slots → slotFreeClear t i ≡ true
   pub records : (k : ℕ) → k < 8 → recordFreeClear t k ≡ true
 

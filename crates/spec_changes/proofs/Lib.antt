@@ -17,3 +17,6 @@ pub mod Under
 pub mod Added
 pub mod Removed
 pub mod Tables
+pub mod Freed
+pub mod Expired
+pub mod Refreshed

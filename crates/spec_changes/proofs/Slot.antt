@@ -21,7 +21,7 @@ use Rattle.table.specs.Total.{slots}
 use Rattle.table.specs.Word.{bits, isUsed, FourWords}
 use Rattle.table.specs.Zeros.{pastCall}
 use Rattle.table.specs.Lists.{Entry, callAt, entryOf, openAt, entries, Held, callFour, heldIn, heldAt, standaloneAt, held}
-use Rattle.table.specs.Rules.{validIds, callFreeClear, callClear, slotFreeClear}
+use Rattle.table.specs.Rules.{callFreeClear, callClear, slotFreeClear}
 use Rattle.table.specs.Stores.{withSlot}
 use Rattle.spec_changes.specs.Shape.{Shape}
 use Rattle.spec_changes.specs.Calls.{slotOf}
@@ -106,9 +106,10 @@ module _ (t : Table) (words : List ℕ) (i : ℕ) (c : Call) (inside : i < slots
           count-list-if p (isUsed words i) (heldIn (callFour (callAt (withSlot t words i c) i))) ∙ ap (λ d. cond (isUsed words i) (countIf p (heldIn (callFour d))) 0) call-here,
         )
 
-    pub slot-names : ((j : ℕ) → j < slots → isUsed (t .occupied) j ≡ true → validIds (callAt t j) ≡ true) → (isUsed words i ≡ true → validIds c ≡ true)
-        → (j : ℕ) → j < slots → isUsed words j ≡ true → validIds (callAt (withSlot t words i c) j) ≡ true
-    slot-names h k = by-slot (λ j d. isUsed words j ≡ true → validIds d ≡ true) k (λ j l n u. h j l (sym (other j n) ∙ u))
+    -- what holds of every open call holds with the one put in, if it holds of that
+    pub slot-each : (q : Call → Type 0) → ((j : ℕ) → j < slots → isUsed (t .occupied) j ≡ true → q (callAt t j)) → (isUsed words i ≡ true → q c)
+        → (j : ℕ) → j < slots → isUsed words j ≡ true → q (callAt (withSlot t words i c) j)
+    slot-each q h k = by-slot (λ j d. isUsed words j ≡ true → q d) k (λ j l n u. h j l (sym (other j n) ∙ u))
 
     pub slot-free-clear : ((j : ℕ) → j < slots → slotFreeClear t j ≡ true) → cond (isUsed words i) (callFreeClear c) (callClear c) ≡ true
         → (j : ℕ) → j < slots → slotFreeClear (withSlot t words i c) j ≡ true

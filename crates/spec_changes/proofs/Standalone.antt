@@ -92,6 +92,7 @@ module _ (t : Table) (s : Shape t) (k j e : ℕ) (q : Place) (inside : k < 8) (k
     calls = rw standalone-roster (i .calls);
     once = once;
     names = i .names;
+    refreshes = i .refreshes;
     slots = i .slots;
     records = by-record (λ n x. cond (ltb n (t .listed)) (customerFreeClear x) (customerClear x) ≡ true)
         (rw known (standalone-free-clear valid new (rw known at (i .records k inside)))) (i .records);

@@ -7,18 +7,15 @@ use mathlib.Core.Bool.{Bool, true, false, cond}
 use lib.Dec.{eqb}
 use Rattle.lists.specs.Count.{has}
 use Rattle.lists.specs.Below.{below, placeOf}
-use Rattle.table.specs.Table.{Table}
+use Rattle.table.specs.Table.{Call, Customer, Table}
 use Rattle.table.specs.Total.{slots}
-use Rattle.table.specs.Word.{withFree}
-use Rattle.table.specs.Zeros.{noCall}
 use Rattle.table.specs.Lists.{Ids, Lsp, Held, heldAt, standaloneAt}
 use Rattle.table.specs.Rules.{isLsp}
-use Rattle.table.specs.Stores.{withSlot}
-use Rattle.spec_changes.specs.Calls.{isCall, slotOf, closed}
+use Rattle.table.specs.Stores.{withSlot, withCustomer}
+use Rattle.spec_changes.specs.Calls.{isCall, slotOf, freed, closed}
 use Rattle.spec_changes.specs.Connections.{isCallOf, addedUnder, removedUnder, addedStandalone, removedStandalone, customerOf, added, removed}
 
-pub closed-is : (t : Table) (c : Ids) (slot : ℕ) → slot ≡ slotOf t (isCall c) → withSlot t (withFree (t .occupied) slot) slot noCall ≡ closed t c
-unfolding closed
+pub closed-is : (t : Table) (c : Ids) (slot : ℕ) → slot ≡ slotOf t (isCall c) → freed t slot ≡ closed t c
 closed-is t c slot e = rw e
 
 module _ (t : Table) (x : Held) where
@@ -41,34 +38,46 @@ module _ (t : Table) (x : Lsp) where
   unfolding removed
   removed-standalone k h e = rw (h, e)
 
--- ---- the roster's form stays: `opened-form` stands beside what else an opening keeps
+-- ---- what no change touches: `opened-form` and `opened-time` stand beside what else an opening keeps
 
 pub closed-form : (t : Table) (c : Ids) → closed t c .form ≡ t .form
-unfolding closed
+unfolding freed
 closed-form t c = refl
 
+pub closed-time : (t : Table) (c : Ids) → closed t c .time ≡ t .time
+unfolding freed
+closed-time t c = refl
+
+-- what neither a call nor a customer stored changes, a connection added or removed does not change
+module _ {ℓ} {A : Type ℓ} (f : Table → A) (slot : (t : Table) (i : ℕ) (c : Call) → f (withSlot t (t .occupied) i c) ≡ f t) (customer : (t : Table) (k : ℕ) (c : Customer) → f (withCustomer t k c) ≡ f t) where
+  pub added-same : (t : Table) (x : Held) → f (added t x) ≡ f t
+  unfolding added addedUnder addedStandalone
+  added-same t x = by (eqb (x .call) 0)
+    where
+      by : (b : Bool) → f (cond b (addedStandalone t (customerOf t (x .lsp .sender)) (x .lsp)) (addedUnder t (slotOf t (isCallOf x)) (x .lsp))) ≡ f t
+      by true = customer t _ _
+      by false = slot t _ _
+
+  pub removed-same : (t : Table) (x : Lsp) → f (removed t x) ≡ f t
+  unfolding removed removedUnder removedStandalone
+  removed-same t x = by (has (isLsp x) (below (heldAt t) slots))
+    where
+      by : (b : Bool) → f (cond b (removedUnder t (placeOf (heldAt t) (isLsp x) slots) x) (removedStandalone t (placeOf (standaloneAt t) (isLsp x) 8) x)) ≡ f t
+      by true = slot t _ _
+      by false = customer t _ _
+
 pub added-form : (t : Table) (x : Held) → added t x .form ≡ t .form
-unfolding added addedUnder addedStandalone
-added-form t x = by (eqb (x .call) 0)
-  where
-    by : (b : Bool) → cond b (addedStandalone t (customerOf t (x .lsp .sender)) (x .lsp)) (addedUnder t (slotOf t (isCallOf x)) (x .lsp)) .form ≡ t .form
-    by true = refl
-    by false = refl
+added-form = added-same (λ (t : Table). t .form) (λ t i c. refl) (λ t k c. refl)
+
+pub added-time : (t : Table) (x : Held) → added t x .time ≡ t .time
+added-time = added-same (λ (t : Table). t .time) (λ t i c. refl) (λ t k c. refl)
 
 -- a connection added marks no slot
 pub added-words : (t : Table) (x : Held) → added t x .occupied ≡ t .occupied
-unfolding added addedUnder addedStandalone
-added-words t x = by (eqb (x .call) 0)
-  where
-    by : (b : Bool) → cond b (addedStandalone t (customerOf t (x .lsp .sender)) (x .lsp)) (addedUnder t (slotOf t (isCallOf x)) (x .lsp)) .occupied ≡ t .occupied
-    by true = refl
-    by false = refl
+added-words = added-same (λ (t : Table). t .occupied) (λ t i c. refl) (λ t k c. refl)
 
 pub removed-form : (t : Table) (x : Lsp) → removed t x .form ≡ t .form
-unfolding removed removedUnder removedStandalone
-removed-form t x = by (has (isLsp x) (below (heldAt t) slots))
-  where
-    by : (b : Bool)
-        → cond b (removedUnder t (placeOf (heldAt t) (isLsp x) slots) x) (removedStandalone t (placeOf (standaloneAt t) (isLsp x) 8) x) .form ≡ t .form
-    by true = refl
-    by false = refl
+removed-form = removed-same (λ (t : Table). t .form) (λ t i c. refl) (λ t k c. refl)
+
+pub removed-time : (t : Table) (x : Lsp) → removed t x .time ≡ t .time
+removed-time = removed-same (λ (t : Table). t .time) (λ t i c. refl) (λ t k c. refl)

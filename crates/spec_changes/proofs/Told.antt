@@ -19,7 +19,7 @@ use Rattle.table.specs.Total.{slots, totalOf}
 use Rattle.table.specs.Word.{bits, isUsed}
 use Rattle.table.specs.Lists.{Terms, roster, Entry, callAt, entries, Held, held}
 use Rattle.table.specs.Share.{isAt, isListed, guaranteeOf, limitOf, callsOf, S}
-use Rattle.table.specs.Rules.{badShare, sameAddress, guarantees, acceptable, rosterHolds, unlisted, overLimit, sameShort, sameLong, sameRequest, validIds, sameConnection, slotFreeClear, recordFreeClear, rosterAcceptable, slotsWithinTotal, sendersListed, withinLimits, shareWithinTotal, shortIdsOnce, longIdsOnce, requestsOnce, namesAndIds, connectionsOnce, freeHoldsZeros, holds, rulesHold}
+use Rattle.table.specs.Rules.{badShare, sameAddress, guarantees, acceptable, rosterHolds, unlisted, overLimit, sameShort, sameLong, sameRequest, validIds, sameConnection, slotFreeClear, recordFreeClear, rosterAcceptable, slotsWithinTotal, sendersListed, withinLimits, shareWithinTotal, shortIdsOnce, longIdsOnce, requestsOnce, namesAndIds, refreshesPast, connectionsOnce, freeHoldsZeros, holds, rulesHold}
 use Rattle.table.proofs.Within.{used-within}
 use Rattle.table.proofs.Addresses.{roster-cases, acceptable-apart}
 use Rattle.spec_changes.proofs.Alike.{self, short-self, long-self, lsp-self, short-alike, long-alike, lsp-alike, request-self, request-alike}
@@ -114,7 +114,8 @@ unfolding rulesHold
 rules-kept t h =
     let zeros = both _ (holds freeHoldsZeros t) h in
     let once = both _ (holds connectionsOnce t) (zeros .0) in
-    let names = both _ (holds namesAndIds t) (once .0) in
+    let past = both _ (holds refreshesPast t) (once .0) in
+    let names = both _ (holds namesAndIds t) (past .0) in
     let requests = both _ (holds requestsOnce t) (names .0) in
     let longs = both _ (holds longIdsOnce t) (requests .0) in
     let shorts = both _ (holds shortIdsOnce t) (longs .0) in
@@ -136,6 +137,7 @@ rules-kept t h =
       };
       once = no-two-once sameConnection (λ (x : Held). x) lsp-alike (held t) (once .1);
       names = λ i l. named (isUsed (t .occupied) i) (validIds (callAt t i)) (every-at _ slots (names .1) i l);
+      refreshes = λ i l u. leb-true (callAt t i .refreshed) (t .time) (named (isUsed (t .occupied) i) (leb (callAt t i .refreshed) (t .time)) (every-at _ slots (past .1) i l) u);
       slots = every-at (slotFreeClear t) slots (clear .0);
       records = every-at (recordFreeClear t) 8 (clear .1);
     }
@@ -154,6 +156,7 @@ kept-rules t k =
       once-no-two sameLong (λ (e : Entry). e .ids) long-alike (λ b c h. long-self b) (entries t) (k .calls .longs),
       once-no-two sameRequest (λ (e : Entry). e) request-alike request-self (entries t) (k .calls .requests),
       every-within (λ i. not (isUsed (t .occupied) i) || validIds (callAt t i)) slots (λ i l. said _ _ (k .names i l)),
+      every-within (λ i. not (isUsed (t .occupied) i) || leb (callAt t i .refreshed) (t .time)) slots (λ i l. said _ _ (λ u. le-leb (callAt t i .refreshed) (t .time) (k .refreshes i l u))),
       once-no-two sameConnection (λ (x : Held). x) lsp-alike (λ x y h. lsp-self x) (held t) (k .once),
       every-within (slotFreeClear t) slots (k .slots),
       every-within (recordFreeClear t) 8 (k .records),

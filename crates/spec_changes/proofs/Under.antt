@@ -1,6 +1,6 @@
 -- A change of one place of a call's four is the change of one place, and leaves roster and calls alone.
 -- Assumes nothing.
-use Prim.Native.Nat.{ℕ, _-_, _<_}
+use Prim.Native.Nat.{ℕ, _-_, _≤_, _<_}
 use native.Mathlib.Omega.{arith}
 use mathlib.Core.Path.{_≡_, refl, _∙_}
 use mathlib.Core.Bool.{Bool, true, _&&_}
@@ -20,7 +20,7 @@ use Rattle.table.specs.Rules.{rosterHolds, validIds, requestTidy, placeValid, c
 use Rattle.table.specs.Stores.{withSlot, withPlace}
 use Rattle.spec_changes.specs.Shape.{Shape}
 use Rattle.spec_changes.proofs.Kept.{calls-fewer}
-use Rattle.spec_changes.proofs.Slot.{slot-shape, slot-entries, slot-held, slot-names, slot-free-clear}
+use Rattle.spec_changes.proofs.Slot.{slot-shape, slot-entries, slot-held, slot-each, slot-free-clear}
 use Rattle.spec_changes.proofs.Places.{places-valid, row-within}
 use Rattle.spec_changes.proofs.Connections.{SameCalls, OnePlace}
 
@@ -59,7 +59,8 @@ module _ (t : Table) (s : Shape t) (i j : ℕ) (q : Place) (inside : i < slots) 
       within = k .within;
       calls = calls-fewer (totalOf t) (roster t) (entries u) (entries t) (λ p. omega (arith, under-entries p)) (k .calls);
       once = once;
-      names = slot-names t (t .occupied) i d inside (s .calls) (λ m n. refl) (k .names) (λ h. under-names (k .names i inside used));
+      names = slot-each t (t .occupied) i d inside (s .calls) (λ m n. refl) (λ e. validIds e ≡ true) (k .names) (λ h. under-names (k .names i inside used));
+      refreshes = slot-each t (t .occupied) i d inside (s .calls) (λ m n. refl) (λ e. e .refreshed ≤ t .time) (k .refreshes) (k .refreshes i inside);
       slots = slot-free-clear t (t .occupied) i d inside (s .calls) (λ m n. refl) (k .slots) (rw used (under-free-clear new (rw used at (k .slots i inside))));
       records = k .records;
     };

@@ -1,4 +1,4 @@
--- The table with a call opened, closed; and with the next own identifier taken.
+-- The table with a call opened, closed, refreshed; and with the next own identifier taken.
 use Prim.Native.Nat.{ℕ}
 use mathlib.Core.Bool.{Bool, _&&_}
 use lib.ListN.{length, replicate}
@@ -11,9 +11,9 @@ use Rattle.table.specs.Total.{slots}
 use Rattle.table.specs.Identifier.{identifierAfter}
 use Rattle.table.specs.Word.{lowestFree, withUsed, withFree}
 use Rattle.table.specs.Zeros.{noPlace, noCall}
-use Rattle.table.specs.Lists.{Ids, Entry, openAt}
+use Rattle.table.specs.Lists.{Ids, Entry, callAt, openAt}
 use Rattle.table.specs.Rules.{sameShort, sameLong}
-use Rattle.table.specs.Stores.{withSlot, withNext}
+use Rattle.table.specs.Stores.{withSlot, withNext, withRefresh}
 
 -- a call to be opened: its four, whether the node made them, and the epoch and identifier of the request for which it did
 -- (02, A6)
@@ -26,12 +26,12 @@ pub record New : Type 0 where
 abbrev pub entryFor : ℕ → New → Entry
 entryFor slot c = record { slot = slot; ids = c .ids; made = c .made; request = c .request }
 
--- a call as a slot holds it (01, Share: name bytes past the length, and free places, hold zeros)
-abbrev pub stored : New → Call
-stored c = record {
+-- a call as a slot holds it, opened at a time (01, Share: name bytes past the length, and free places, hold zeros)
+abbrev pub stored : ℕ → New → Call
+stored time c = record {
   endpoint = c .ids .endpoint;
   sender = c .ids .sender;
-  refreshed = 0;
+  refreshed = time;
   epoch = c .request .epoch;
   identifier = c .request .identifier;
   id = c .ids .short;
@@ -41,9 +41,10 @@ stored c = record {
   places = replicate 4 noPlace;
 }
 
--- 01, Share: a new call takes the lowest free slot. There is one wherever the answer is 20 (`open-room`).
+-- 01, Share: a new call takes the lowest free slot. There is one wherever the answer is 20 (`open-room`). 02, A7: it holds
+-- the node's time.
 unfoldable pub opened : Table → New → Table
-opened t c = withSlot t (withUsed (t .occupied) (lowestFree (t .occupied))) (lowestFree (t .occupied)) (stored c)
+opened t c = withSlot t (withUsed (t .occupied) (lowestFree (t .occupied))) (lowestFree (t .occupied)) (stored (t .time) c)
 
 -- an entry is the call that has all four
 abbrev pub isCall : Ids → Entry → Bool
@@ -53,9 +54,17 @@ isCall c e = sameShort c (e .ids) && sameLong c (e .ids)
 abbrev pub slotOf : Table → (Entry → Bool) → ℕ
 slotOf t p = placeOf (openAt t) p slots
 
--- the call's slot is free again, and what is free holds zeros. A call is closed only where it is open (33).
-unfoldable pub closed : Table → Ids → Table
-closed t c = withSlot t (withFree (t .occupied) (slotOf t (isCall c))) (slotOf t (isCall c)) noCall
+-- a slot is free again, and what is free holds zeros
+unfoldable pub freed : Table → ℕ → Table
+freed t i = withSlot t (withFree (t .occupied) i) i noCall
+
+-- a close frees the call's slot. A call is closed only where it is open (33).
+abbrev pub closed : Table → Ids → Table
+closed t c = freed t (slotOf t (isCall c))
+
+-- 02, A7: a call's last refresh is the node's time
+unfoldable pub refreshedAt : Table → ℕ → Table
+refreshedAt t i = withSlot t (t .occupied) i (withRefresh (callAt t i) (t .time))
 
 -- 01, Reply bytes: own identifiers rise by one a Notify sent
 abbrev pub identifierTaken : Table → Table

@@ -22,15 +22,16 @@ use Rattle.table.specs.Rules.{validIds, sameLong, callFreeClear}
 use Rattle.table.proofs.Slots.{used-other}
 use Rattle.table.proofs.Within.{total-most}
 use Rattle.spec_changes.specs.Shape.{Shape}
+use Rattle.spec_changes.specs.Expiry.{raised}
 use Rattle.spec_changes.proofs.Alike.{long-self}
 use Rattle.spec_changes.proofs.Kept.{CallsKept, Kept, calls-fewer}
 use Rattle.spec_changes.proofs.Slot.{call-here, call-other}
-use Rattle.spec_changes.proofs.Opened.{slot-used, used-shape}
+use Rattle.spec_changes.proofs.Opened.{slot-used}
 use Rattle.spec_changes.proofs.Told.{kept-rules}
 use Rattle.spec_checkpoint.specs.Layout.{Slotted, recordEntry, callsIn, callRecord}
 use Rattle.spec_checkpoint.specs.Places.{withoutPlaces}
 use Rattle.spec_checkpoint.specs.Salvage.{placed, soundAlone, namedBy, goesBefore, sameCall, keptByLongId, callFits, withCalls}
-use Rattle.spec_checkpoint.proofs.Part.{record-bare, placed-entries, placed-held, placed-kept}
+use Rattle.spec_checkpoint.proofs.Part.{record-bare, placed-shape, placed-entries, placed-held, placed-kept}
 
 -- ---- elements that stand one in each place
 
@@ -181,16 +182,16 @@ module _ (t fresh : Table) (s : List ℕ) (k : Kept t) (c : Copied t s)
     next-fields j l q = by (eqb j (r .slot)) refl
       where
         by : (a : Bool) → eqb j (r .slot) ≡ a → callAt (placed u r) j ≡ withoutPlaces (callAt t j)
-        by true e = rw (eqb-true j (r .slot) e) (call-here u (withUsed (u .occupied) (r .slot)) (r .slot) (r .call) (inside i h) (b .shape .calls) ∙ c .call i h)
+        by true e = rw (eqb-true j (r .slot) e) (call-here (raised u (r .call .refreshed)) (withUsed (u .occupied) (r .slot)) (r .slot) (r .call) (inside i h) (b .shape .calls) ∙ c .call i h)
         by false e =
             let n = eqb-false j (r .slot) e in
-            call-other u (withUsed (u .occupied) (r .slot)) (r .slot) (r .call) (inside i h) (b .shape .calls) j n
+            call-other (raised u (r .call .refreshed)) (withUsed (u .occupied) (r .slot)) (r .slot) (r .call) (inside i h) (b .shape .calls) j n
             ∙ b .fields j l (sym (used-other (u .occupied) (r .slot) (omega (arith, inside i h, b .shape .words .four)) j n) ∙ q)
 
     step : Filled t fresh s (suc i)
     unfolding below
     step = record {
-      shape = rw goes-on (used-shape u (r .slot) (r .call) (b .shape) (inside i h) refl);
+      shape = rw goes-on (placed-shape u r (b .shape) (inside i h) refl);
       kept = rw goes-on next;
       same = rw goes-on (b .same);
       form = rw goes-on (b .form);

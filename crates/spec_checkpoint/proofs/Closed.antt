@@ -24,7 +24,9 @@ use Rattle.table.specs.Stores.{withSlot, withCustomer, withPlace, withStandalon
 use Rattle.spec_changes.specs.Shape.{Shape}
 use Rattle.spec_changes.specs.Calls.{slotOf}
 use Rattle.spec_changes.specs.Connections.{placeFor, freePlace, isCallOf, addedUnder, addedStandalone, customerOf, added}
+use Rattle.spec_changes.specs.Expiry.{raised}
 use Rattle.spec_changes.proofs.Slot.{found-slot, call-here, call-other}
+use Rattle.spec_changes.proofs.Expired.{raised-shape}
 use Rattle.spec_changes.proofs.Added.{MayAdd}
 use Rattle.spec_checkpoint.specs.Layout.{Slotted}
 use Rattle.spec_checkpoint.specs.Places.{InOrder, ClosedUp}
@@ -98,7 +100,9 @@ not-taken e = let z : _≡_ {A = ℕ} 0 1 = cc in omega arith
 
 pub closed-placed : (t : Table) (r : Slotted) → Shape t → r .slot < slots → r .call .places ≡ replicate 4 noPlace → ClosedUp t → ClosedUp (placed t r)
 closed-placed t r s inside p o =
-    closed-slot t (withUsed (t .occupied) (r .slot)) (r .slot) (r .call) inside s (λ j h e. absurd (not-taken (rw (p, alike noPlace (suc j)) at e))) o
+    let time = r .call .refreshed in
+    closed-slot (raised t time) (withUsed (t .occupied) (r .slot)) (r .slot) (r .call) inside (raised-shape t time s) (λ j h e. absurd (not-taken (rw (p, alike noPlace (suc j)) at e)))
+    (record { under = o .under; standalone = o .standalone })
 
 pub closed-added : (t : Table) (x : Held) → Shape t → MayAdd t x → ClosedUp t → ClosedUp (added t x)
 unfolding added addedUnder addedStandalone

@@ -66,7 +66,7 @@ unfolding callFreeClear
 request-fits c h =
     let a = both (requestTidy c && _) _ h in
     let b = both (requestTidy c) _ (a .0) in
-    by (isMade c) refl (both (eqb (c .refreshed) 0) _ (b .0) .1)
+    by (isMade c) refl (b .0)
   where
     zeros : Bool
     zeros = eqb (c .made) 0 && eqb (c .epoch) 0 && eqb (c .identifier) 0
@@ -119,16 +119,8 @@ module _ (s : List ℕ) (at slot : ℕ) (c : Call) (n : length (c .name) ≡ 32)
       let refreshed : be32At s (at + 44) ≡ c .refreshed = read32 s b at i 44 ∙ rw (behind 0, behind 1, behind 2, behind 3) (back32 (c .refreshed)) in
       let epoch : be24At s (at + 48) ≡ c .epoch = read24 s b at i 48 ∙ rw (behind 4, behind 5, behind 6) (back24 (c .epoch) (fits .1)) in
       let identifier : be32At s (at + 51) ≡ c .identifier = read32 s b at i 51 ∙ rw (behind 7, behind 8, behind 9, behind 10) (back32 (c .identifier)) in
-      rw (
-        first,
-        read16 s b at i 1 ∙ back16 (c .id),
-        read32 s b at i 3 ∙ back32 (c .endpoint),
-        read32 s b at i 7 ∙ back32 (c .sender),
-        marked,
-        size,
-        made,
-        name-back,
-        refreshed,
-        epoch,
-        identifier,
-      )
+      let id = read16 s b at i 1 ∙ back16 (c .id) in
+      let endpoint = read32 s b at i 3 ∙ back32 (c .endpoint) in
+      let sender = read32 s b at i 7 ∙ back32 (c .sender) in
+      let name = name-back in
+      cc

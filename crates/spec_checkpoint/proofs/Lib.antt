@@ -1,3 +1,4 @@
+pub mod Latest
 pub mod Closed
 pub mod Salvaged
 pub mod Reading

@@ -33,8 +33,11 @@ use Rattle.spec_changes.proofs.Kept.{Kept}
 use Rattle.spec_changes.proofs.Slot.{found-slot, call-here, call-other}
 use Rattle.spec_changes.proofs.Everywhere.{none-in, none-under, none-standalone}
 use Rattle.spec_changes.proofs.Added.{MayAdd, Put, put-standalone, put-under}
+use Rattle.spec_changes.proofs.Tables.{added-words}
 use Rattle.spec_changes.proofs.Told.{roster-kept}
 use Rattle.spec_checkpoint.specs.Places.{InOrder, ClosedUp, withoutPlaces}
+use Rattle.spec_checkpoint.specs.Latest.{refreshIn, latestRefresh}
+use Rattle.spec_checkpoint.proofs.Latest.{largest-ext}
 use Rattle.spec_checkpoint.proofs.AllKept.{one-place}
 use Rattle.spec_checkpoint.proofs.Fours.{one-call}
 
@@ -171,7 +174,7 @@ module _ (t : Table) (x : Held) (s : Shape t) (k : Kept t) (m : MayAdd t x) (o :
   unfolding added addedUnder
   under-here n = rw (ne-eqb (x .call) 0 n, call-here t (t .occupied) (slotOf t (isCallOf x)) _ (found-slot t (isCallOf x) (m .call n) .0) (s .calls))
 
-  -- no field of a call changes but its places, and no slot changes sides
+  -- no field of a call changes but its places
   pub fields-stay : (i : ℕ) → withoutPlaces (callAt (added t x) i) ≡ withoutPlaces (callAt t i)
   fields-stay i = by (eqb (x .call) 0) refl (eqb i (slotOf t (isCallOf x))) refl
     where
@@ -180,13 +183,8 @@ module _ (t : Table) (x : Held) (s : Shape t) (k : Kept t) (m : MayAdd t x) (o :
       by false e true q = rw (eqb-true i (slotOf t (isCallOf x)) q) (under-here (eqb-false (x .call) 0 e))
       by false e false q = ap withoutPlaces (under-elsewhere (eqb-false (x .call) 0 e) i (eqb-false i (slotOf t (isCallOf x)) q))
 
-  pub words-stay : added t x .occupied ≡ t .occupied
-  unfolding added addedUnder addedStandalone
-  words-stay = by (eqb (x .call) 0)
-    where
-      by : (b : Bool) → cond b (addedStandalone t (customerOf t (x .lsp .sender)) (x .lsp)) (addedUnder t (slotOf t (isCallOf x)) (x .lsp)) .occupied ≡ t .occupied
-      by true = refl
-      by false = refl
+  pub refreshes-stay : latestRefresh (added t x) ≡ latestRefresh t
+  refreshes-stay = largest-ext (refreshIn (added t x)) (refreshIn t) slots (λ i h. rw (added-words t x) (ap (λ c. cond (isUsed (t .occupied) i) (c .refreshed) 0) (fields-stay i)))
 
   pub under-grows : (i : ℕ) → i < slots → isUsed (t .occupied) i ≡ true
       → heldIn (callFour (callAt (added t x) i)) ≡ heldIn (callFour (callAt t i)) ++ underOf (callAt t i) (x ∷ [])

@@ -15,17 +15,20 @@ use Rattle.table.specs.declared.answer.RosterAnswer.{RosterAnswer}
 use Rattle.table.specs.declared.answer.RosterAnswer.the-variants.{Accepted, Short, BadForm, Length, SpareBits, Share, Repeated, Guarantees}
 use Rattle.table.specs.Total.{totalFor, totalOf}
 use Rattle.table.specs.Word.{bits, isUsed, FourWords}
+use Rattle.table.specs.Zeros.{emptyTable}
 use Rattle.table.specs.Lists.{roster, entries}
 use Rattle.table.specs.Rules.{rulesHold}
 use Rattle.table.specs.Roster.{totalIn, rosterNumber, rosterAnswer, freshTable, tableFor, formIn}
 use Rattle.table.proofs.Slots.{none-used}
 use Rattle.table.proofs.Within.{rules-within, used-within}
-use Rattle.table.proofs.Fresh.{fresh-holds, empty-holds, fresh-roster}
+use Rattle.table.proofs.Fresh.{all-free, fresh-holds, empty-holds, fresh-roster}
 use Rattle.spec_changes.proofs.Fresh.{fresh-shape}
 use Rattle.spec_promises.specs.Promises.{Agrees}
 use Rattle.spec_promises.proofs.Demand3.{accepted, demand3-from, agrees-from, connections-from}
+use Rattle.spec_checkpoint.specs.Latest.{latestRefresh}
 use Rattle.spec_checkpoint.specs.Restored.{Restored, badSize, unrestored, fromCheckpoint, dropsNone, restored}
-use Rattle.spec_checkpoint.specs.Claims.{RestoredHolds, SalvageAnswers, PlainSame, Plain72, OutsideDropped, Demand3Restored, AgreesRestored, ConnectionsRestored}
+use Rattle.spec_checkpoint.specs.Claims.{RestoredHolds, TimeRestored, SalvageAnswers, PlainSame, Plain72, OutsideDropped, Demand3Restored, AgreesRestored, ConnectionsRestored}
+use Rattle.spec_checkpoint.proofs.Latest.{latest-none}
 use Rattle.spec_checkpoint.proofs.Closed.{closed-fresh}
 use Rattle.spec_checkpoint.proofs.Salvaged.{Sound, RecordsFit, bytes-fit, salvaged-sound}
 
@@ -33,7 +36,7 @@ use Rattle.spec_checkpoint.proofs.Salvaged.{Sound, RecordsFit, bytes-fi
 
 pub fresh-sound : (r : List ℕ) → Bytes r → rosterAnswer r ≡ Accepted → Sound r (freshTable r)
 unfolding freshTable
-fresh-sound r b e = record { shape = fresh-shape r; rules = fresh-holds r b e; roster = fresh-roster r e; form = refl; closed = closed-fresh r }
+fresh-sound r b e = record { shape = fresh-shape r; rules = fresh-holds r b e; roster = fresh-roster r e; form = refl; closed = closed-fresh r; time = sym (latest-none (freshTable r) all-free) }
 
 pub checkpoint-sound : (r s : List ℕ) → Bytes r → RecordsFit s → rosterAnswer r ≡ Accepted → Sound r (fromCheckpoint r s .table)
 unfolding fromCheckpoint
@@ -64,6 +67,14 @@ restored-holds salvage r s b d = by (eqb (rosterNumber (rosterAnswer r)) 0) refl
     by : (a : Bool) → eqb (rosterNumber (rosterAnswer r)) 0 ≡ a → rulesHold (restored salvage r s .table) ≡ true
     by true q = restored-sound salvage r s b d (eqb-true _ _ q) .rules
     by false q = rw q empty-holds
+
+pub time-restored : TimeRestored
+unfolding restored tableFor emptyTable
+time-restored salvage r s b d = by (eqb (rosterNumber (rosterAnswer r)) 0) refl
+  where
+    by : (a : Bool) → eqb (rosterNumber (rosterAnswer r)) 0 ≡ a → restored salvage r s .table .time ≡ latestRefresh (restored salvage r s .table)
+    by true q = restored-sound salvage r s b d (eqb-true _ _ q) .time
+    by false q = rw q (sym (latest-none emptyTable all-free))
 
 pub salvage-answers : SalvageAnswers
 unfolding restored fromCheckpoint isIn

@@ -38,7 +38,7 @@ use Rattle.spec_checkpoint.specs.Restored.{badSize, fromCheckpoint, rest
 use Rattle.spec_checkpoint.specs.Claims.{ReadBack, RoundTrip, SalvageSame}
 use Rattle.spec_checkpoint.proofs.AllKept.{Filled, filled}
 use Rattle.spec_checkpoint.proofs.Connected.{records-fit, Joined, may, goes-on, joined-all}
-use Rattle.spec_checkpoint.proofs.Standing.{Standing, listed-same, stands-on, under-same, standalone-same, entries-same, held-same}
+use Rattle.spec_checkpoint.proofs.Standing.{Standing, listed-same, stands-on, under-same, standalone-same, entries-same, latest-same, held-same}
 use Rattle.spec_checkpoint.proofs.Salvaged.{Sound, calls-sound, connections-sound}
 use Rattle.spec_checkpoint.proofs.Reading.{fresh-sound, checkpoint-sound}
 use Rattle.spec_checkpoint.proofs.Written.{calls-in, connections-in, form-in, checkpoint-size, copied, connections-are}
@@ -170,6 +170,9 @@ module _ (t : Table) (shape : Shape t) (k : Kept t) (names : (i : ℕ) → i < s
   read-complete true = rw (e, good-size, form-in t k names)
   read-complete false = rw (e, good-size, form-in t k names, no-calls-dropped, no-connections-dropped)
 
+  whole : Sound r (fromCheckpoint r s .table)
+  whole = checkpoint-sound r s bytes (records-fit t s k all-held) e
+
   from-checkpoint : ReadBack t (fromCheckpoint r s)
   unfolding fromCheckpoint
   from-checkpoint = record {
@@ -178,9 +181,10 @@ module _ (t : Table) (shape : Shape t) (k : Kept t) (names : (i : ℕ) → i < s
     connectionsDropped = no-connections-dropped;
     occupied = all-stand .occupied;
     calls = all-stand .fields;
+    time = whole .time ∙ latest-same t after k after-kept after-same all-stand;
     under = under-same t after k after-kept after-same all-stand;
     standalone = standalone-same t after k after-kept after-same all-stand;
-    closed = checkpoint-sound r s bytes (records-fit t s k all-held) e .closed;
+    closed = whole .closed;
     entries = entries-same t after k after-kept after-same all-stand;
     held = held-same t after k after-kept after-same all-stand;
   }

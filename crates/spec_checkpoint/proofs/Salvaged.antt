@@ -3,7 +3,7 @@
 use Prim.Native.Nat.{ℕ, zero, suc, _+_, _*_, _≤_, _<_}
 use native.Mathlib.Nat.{le-refl}
 use native.Mathlib.Omega.{arith}
-use mathlib.Core.Path.{_≡_, refl, ap, _∙_}
+use mathlib.Core.Path.{_≡_, refl, sym, ap, _∙_}
 use mathlib.Core.List.{List}
 use mathlib.Core.Bool.{Bool, true, false, cond, not, _&&_}
 use lib.Dec.{eqb}
@@ -26,15 +26,16 @@ use Rattle.table.proofs.Within.{total-most}
 use Rattle.spec_changes.specs.Shape.{Shape}
 use Rattle.spec_changes.specs.Connections.{placeFor, added, callMissing}
 use Rattle.spec_changes.proofs.Valid.{valid-place}
-use Rattle.spec_changes.proofs.Opened.{used-shape}
 use Rattle.spec_changes.proofs.Added.{MayAdd, added-roster, added-shape, added-kept}
-use Rattle.spec_changes.proofs.Tables.{added-form}
+use Rattle.spec_changes.proofs.Tables.{added-form, added-time}
 use Rattle.spec_changes.proofs.Told.{rules-kept, kept-rules}
 use Rattle.spec_checkpoint.specs.Layout.{Slotted, callsIn, connectionsIn, callRecord, connectionRecord}
 use Rattle.spec_checkpoint.specs.Places.{ClosedUp}
+use Rattle.spec_checkpoint.specs.Latest.{latestRefresh}
 use Rattle.spec_checkpoint.specs.Salvage.{placed, soundAlone, keptByLongId, callFits, withCalls, connectionFits, withConnections, salvaged}
 use Rattle.spec_checkpoint.proofs.Closed.{closed-placed, closed-added}
-use Rattle.spec_checkpoint.proofs.Part.{placed-form}
+use Rattle.spec_checkpoint.proofs.Part.{places-bare, placed-form, placed-shape, placed-latest}
+use Rattle.spec_checkpoint.proofs.Order.{refreshes-stay}
 
 -- what stays true of the table from one record to the next: r is the roster that the copy is read under
 pub record Sound (r : List ℕ) (t : Table) : Type 0 where
@@ -43,6 +44,7 @@ pub record Sound (r : List ℕ) (t : Table) : Type 0 where
   pub roster : roster t ≡ recordsIn r (customersIn r)
   pub form : t .form ≡ formIn r
   pub closed : ClosedUp t
+  pub time : t .time ≡ latestRefresh t
 
 -- a table where a test passes, the one before where it does not
 either : (P : Table → Type 0) (b : Bool) (t u : Table) → P u → (b ≡ true → P t) → P (cond b t u)
@@ -58,13 +60,16 @@ kept-inside fresh s i h = omega (arith, ltb-true (callRecord s i .slot) (totalOf
 
 call-sound : (r : List ℕ) (t : Table) (c : Slotted) → c .slot < slots → c .call .places ≡ replicate 4 noPlace → callFits t c ≡ true → Sound r t → Sound r (placed t c)
 unfolding callFits
-call-sound r t c h p f i = record {
-  shape = used-shape t (c .slot) (c .call) (i .shape) h (ap length p);
-  rules = both (not (isUsed (t .occupied) (c .slot))) _ f .1;
-  roster = i .roster;
-  form = placed-form t c ∙ i .form;
-  closed = closed-placed t c (i .shape) h p (i .closed);
-}
+call-sound r t c h p f i =
+    let k = both (not (isUsed (t .occupied) (c .slot))) _ f in
+    record {
+      shape = placed-shape t c (i .shape) h (ap length p);
+      rules = k .1;
+      roster = i .roster;
+      form = placed-form t c ∙ i .form;
+      closed = closed-placed t c (i .shape) h p (i .closed);
+      time = omega (arith, i .time, placed-latest t c (i .shape .calls) (i .shape .words .four) h (not-true _ (k .0)) (places-bare (c .call) p));
+    }
 
 pub calls-sound : (r : List ℕ) (fresh : Table) (s : List ℕ) → Sound r fresh → (n : ℕ) → Sound r (withCalls fresh s n)
 unfolding withCalls
@@ -104,6 +109,7 @@ connection-sound r t x v f i =
       roster = added-roster t x (i .shape) m ∙ i .roster;
       form = added-form t x ∙ i .form;
       closed = closed-added t x (i .shape) m (i .closed);
+      time = added-time t x ∙ i .time ∙ sym (refreshes-stay t x (i .shape) (rules-kept t (i .rules)) m (i .closed));
     }
 
 -- each connection record has IDs that a place may have

@@ -4,7 +4,7 @@ use Prim.Native.Nat.{ℕ, _<_}
 use native.Mathlib.Omega.{arith}
 use mathlib.Core.Path.{_≡_, refl, sym, ap, ap₂, _∙_}
 use mathlib.Core.List.{List, [], _∷_, _++_}
-use mathlib.Core.Bool.{Bool, true, false, _&&_}
+use mathlib.Core.Bool.{Bool, true, false, cond, _&&_}
 use lib.Dec.{ltb, eqb}
 use lib.ListN.{length, getD}
 use borrow.Author.Tests.{eqb-true, ltb-true}
@@ -22,9 +22,12 @@ use Rattle.spec_changes.specs.Shape.{Shape}
 use Rattle.spec_changes.specs.Connections.{added}
 use Rattle.spec_changes.proofs.Kept.{Kept}
 use Rattle.spec_changes.proofs.Added.{MayAdd}
+use Rattle.spec_changes.proofs.Tables.{added-words}
 use Rattle.spec_changes.proofs.Told.{listed-most}
 use Rattle.spec_checkpoint.specs.Places.{ClosedUp, withoutPlaces}
-use Rattle.spec_checkpoint.proofs.Order.{underOf, standaloneOf, under-all, standalone-all, under-grows, standalone-grows, fields-stay, words-stay}
+use Rattle.spec_checkpoint.specs.Latest.{refreshIn, latestRefresh}
+use Rattle.spec_checkpoint.proofs.Latest.{largest-ext}
+use Rattle.spec_checkpoint.proofs.Order.{underOf, standaloneOf, under-all, standalone-all, under-grows, standalone-grows, fields-stay}
 
 -- u has t's calls, and of t's connections those of the list
 pub record Standing (t u : Table) (l : List Held) : Type 0 where
@@ -60,7 +63,7 @@ module _ (t u : Table) (k : Kept t) (m : Kept u) (same : roster u ≡ roster t) 
 
   pub stands-on : (x : Held) (l : List Held) → Shape u → MayAdd u x → ClosedUp u → Standing t u l → Standing t (added u x) (l ++ x ∷ [])
   stands-on x l s a o b = record {
-    occupied = words-stay u x s m a o ∙ b .occupied;
+    occupied = added-words u x ∙ b .occupied;
     fields = λ i h v. fields-stay u x s m a o i ∙ b .fields i h v;
     under = λ i h v.
         under-grows u x s m a o i h (ap (λ w. isUsed w i) (b .occupied) ∙ v)
@@ -127,6 +130,13 @@ module _ (t u : Table) (k : Kept t) (m : Kept u) (same : roster u ≡ roster t) 
       by : (i : ℕ) → i < slots → (c : Bool) → isUsed (t .occupied) i ≡ c → openAt u i ≡ openAt t i
       by i l true e = rw (b .occupied, e) (ap (λ c. entryOf i c ∷ []) (b .fields i l e))
       by i l false e = rw (b .occupied, e)
+
+  pub latest-same : latestRefresh u ≡ latestRefresh t
+  latest-same = largest-ext (refreshIn u) (refreshIn t) slots (λ i l. rw (b .occupied) (by i l (isUsed (t .occupied) i) refl))
+    where
+      by : (i : ℕ) → i < slots → (c : Bool) → isUsed (t .occupied) i ≡ c → cond c (callAt u i .refreshed) 0 ≡ cond c (callAt t i .refreshed) 0
+      by i l true e = ap (λ c. c .refreshed) (b .fields i l e)
+      by i l false e = refl
 
   pub held-same : held u ≡ held t
   held-same =

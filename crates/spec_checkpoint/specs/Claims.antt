@@ -25,6 +25,7 @@ use Rattle.spec_promises.specs.Connections.{connectionsAfter}
 use Rattle.spec_promises.specs.Promises.{Input, AtEveryStep, Promised, Agrees}
 use Rattle.spec_checkpoint.specs.Layout.{Slotted, callsIn, connectionsIn, callRecord, checkpointOf}
 use Rattle.spec_checkpoint.specs.Places.{ClosedUp, withoutPlaces}
+use Rattle.spec_checkpoint.specs.Latest.{latestRefresh}
 use Rattle.spec_checkpoint.specs.Salvage.{placed, soundAlone, namedBy, sameCall, keptByLongId, callFits, callKept, withCalls, connectionKept, withConnections}
 use Rattle.spec_checkpoint.specs.Restored.{written, Restored, badSize, dropsNone, restored}
 
@@ -65,10 +66,12 @@ pub record ReadBack (t : Table) (f : Restored) : Type 0 where
   pub answer : f .answer ≡ 0
   pub callsDropped : f .calls ≡ 0
   pub connectionsDropped : f .connections ≡ 0
-  -- the same slots are used, and the call in each has every field that it had: of one that the node made (02, A6) the mark
-  -- and the request's epoch and identifier too
+  -- the same slots are used, and the call in each has every field that it had: its last refresh (02, A7), and of one that
+  -- the node made (02, A6) the mark and the request's epoch and identifier too
   pub occupied : f .table .occupied ≡ t .occupied
   pub calls : (i : ℕ) → i < slots → isUsed (t .occupied) i ≡ true → withoutPlaces (callAt (f .table) i) ≡ withoutPlaces (callAt t i)
+  -- the node's time is the latest refresh of the calls that were written, whatever its time was when it wrote them
+  pub time : f .table .time ≡ latestRefresh t
   -- each call and each customer has the same connections in the same order
   pub under : (i : ℕ) → i < slots → heldIn (callFour (callAt (f .table) i)) ≡ heldIn (callFour (callAt t i))
   pub standalone : (k : ℕ) → k < 8 → heldIn (customerFour (customerAt (f .table) k)) ≡ heldIn (customerFour (customerAt t k))
@@ -97,6 +100,14 @@ SalvageSame =
 -- node that takes a record for sound unseen.
 abbrev pub RestoredHolds : Type 0
 RestoredHolds = (salvage : Bool) (r s : List ℕ) → Bytes r → Bytes s → rulesHold (restored salvage r s .table) ≡ true
+
+-- "the node's time at the latest refresh restored (0 if none)": of every reading, plain or with salvage, the table's time
+-- is the latest refresh of the calls that it has; 0 after a refused one. Not so of a node that keeps the refreshes and
+-- starts at time 0: its table breaks a rule, and every message is answered 1. Nor of one that takes the time from a record
+-- that was dropped: one bad record of a far time would have all calls without connections expire at the first message.
+abbrev pub TimeRestored : Type 0
+TimeRestored =
+    (salvage : Bool) (r s : List ℕ) → Bytes r → Bytes s → restored salvage r s .table .time ≡ latestRefresh (restored salvage r s .table)
 
 -- "72 (plain only) a record that salvage would drop": plain reading answers 72 exactly when salvage drops something. Not
 -- so of a node that drops one in silence, or refuses a copy that could be read whole.

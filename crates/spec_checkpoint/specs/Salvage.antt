@@ -13,11 +13,13 @@ use Rattle.table.specs.Share.{isListed}
 use Rattle.table.specs.Rules.{sameLong, sameConnection, rulesHold}
 use Rattle.table.specs.Stores.{withSlot}
 use Rattle.spec_changes.specs.Connections.{sameFour, added, callMissing, isUnder}
+use Rattle.spec_changes.specs.Expiry.{raised}
 use Rattle.spec_checkpoint.specs.Layout.{Slotted, callsIn, connectionsIn, callRecord, connectionRecord}
 
--- the table with a call in the slot that its record names
+-- the table with a call in the slot that its record names; 02, A7 and A13: the node's time is raised to the record's refresh,
+-- so that in the end it is the latest of those restored
 abbrev pub placed : Table → Slotted → Table
-placed t r = withSlot t (withUsed (t .occupied) (r .slot)) (r .slot) (r .call)
+placed t r = withSlot (raised t (r .call .refreshed)) (withUsed (t .occupied) (r .slot)) (r .slot) (r .call)
 
 -- step 1: a call record that could not stand in the table by itself, or whose slot is outside the total of the roster that
 -- the copy is read under, is dropped

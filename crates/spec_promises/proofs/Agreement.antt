@@ -18,15 +18,19 @@ use Rattle.table.specs.Lists.{roster, Ids, Entry, callAt, entryOf, entries, Lsp
 use Rattle.table.specs.Rules.{rosterHolds, sameShort, sameLong, isLsp, rulesHold}
 use Rattle.table.proofs.Slots.{lowest-below, lowest-here}
 use Rattle.table.proofs.Within.{total-most}
-use Rattle.spec_changes.specs.Calls.{New, entryFor, opened, isCall, slotOf, closed, identifierTaken}
+use Rattle.spec_changes.specs.Calls.{New, entryFor, opened, isCall, slotOf, closed, refreshedAt, identifierTaken}
 use Rattle.spec_changes.specs.Connections.{added, removed, isUnder}
+use Rattle.spec_changes.specs.Expiry.{raised, closingsOf, elapsed}
 use Rattle.spec_changes.proofs.Kept.{Kept, MayOpen, room-for}
 use Rattle.spec_changes.proofs.Told.{roster-kept, rules-kept, kept-rules}
 use Rattle.spec_changes.proofs.Opened.{slot-used, free-slot, opened-entries, opened-held, opened-shape, Fits, opened-kept}
 use Rattle.spec_changes.proofs.Closed.{closed-slot, closed-entries, closed-shape, closed-kept}
+use Rattle.spec_changes.proofs.Refreshed.{refreshed-entries, refreshed-shape, refreshed-kept}
+use Rattle.spec_changes.proofs.Freed.{shape-sized}
+use Rattle.spec_changes.proofs.Expired.{elapsed-shape, elapsed-entries, elapsed-kept}
 use Rattle.spec_changes.proofs.Added.{MayAdd, added-entries, added-shape, added-kept}
 use Rattle.spec_changes.proofs.Removed.{removed-entries, removed-shape, removed-kept}
-use Rattle.spec_promises.specs.Ledger.{lowestSlot}
+use Rattle.spec_promises.specs.Ledger.{lowestSlot, isClosed, dropped}
 use Rattle.spec_promises.specs.Promises.{Agrees}
 
 -- ---- the ledger's lowest slot is the words'
@@ -109,6 +113,22 @@ module _ (t : Table) (l : List Entry) (g : Agrees t l) where
       gone =
           count-gone (isCall c) (entries t) (entries (closed t c)) (entryOf (slotOf t (isCall c)) (callAt t (slotOf t (isCall c))))
           (closed-slot t c (g .shape) h .2) once (closed-entries t c (g .shape) h)
+
+  -- ---- a refresh, and the closings before a message (02, A7)
+
+  pub refresh-agrees : (i : ℕ) → i < slots → isUsed (t .occupied) i ≡ true → Agrees (refreshedAt t i) l
+  refresh-agrees i inside used = record {
+    shape = refreshed-shape t i inside (g .shape);
+    rules = kept-rules (refreshedAt t i) (refreshed-kept t i inside (g .shape) used kept);
+    calls = λ p. ap (countIf p) (refreshed-entries t i inside (g .shape)) ∙ g .calls p;
+  }
+
+  pub elapsed-agrees : (time period : ℕ) → Agrees (elapsed t time period) (dropped (closingsOf (raised t time) period) l)
+  elapsed-agrees time period = record {
+    shape = elapsed-shape t time period (g .shape);
+    rules = kept-rules (elapsed t time period) (elapsed-kept t time period (shape-sized t (g .shape)) kept);
+    calls = λ p. ap (countIf p) (elapsed-entries t time period (shape-sized t (g .shape))) ∙ without-same (isClosed (closingsOf (raised t time) period)) (entries t) l (g .calls) p;
+  }
 
   -- ---- connections come and go
 

@@ -2,11 +2,11 @@
 -- Assumes nothing.
 use Prim.Native.Nat.{ℕ, _+_, _≤_, _<_}
 use native.Mathlib.Omega.{arith}
-use mathlib.Core.Path.{_≡_, refl, sym, ap, _∙_}
+use mathlib.Core.Path.{_≡_, refl, sym, ap, _∙_, subst}
 use mathlib.Core.List.{List, [], _∷_}
 use mathlib.Core.Bool.{Bool, true, false, cond, not, _&&_}
 use lib.Dec.{ltb}
-use lib.ListN.{length, take, drop}
+use lib.ListN.{length, take}
 use lib.Seq.{length-sets}
 use borrow.Author.Tests.{ltb-false}
 use Rattle.numbers.specs.BigEndian.{Bytes}
@@ -21,28 +21,35 @@ use Rattle.messages.specs.Status.{callBit, deleteBit}
 use Rattle.messages.specs.Inside.{CallInside, ConnectionInside}
 use Rattle.reply_objects.specs.Buffer.{leastBuffer}
 use Rattle.reply_objects.specs.Header.{withChecksum}
-use Rattle.replies.specs.declared.notify.Notify.{Notify}
-use Rattle.replies.specs.declared.path_err.PathErr.{PathErr}
 use Rattle.replies.specs.Messages.{PathErrFits, NotifyFits, notifyBytes, notifyMadeBytes, pathErrBytes}
 use Rattle.replies.specs.Claims.{ErrorFits}
 use Rattle.replies.proofs.Lengths.{path-err-length, notify-length}
 use Rattle.replies.proofs.Filled.{notify-made-length}
 use Rattle.replies.proofs.Sums.{path-err-adds-up, notify-adds-up, notify-made-adds-up}
-use Rattle.table.specs.Table.{Table}
+use Rattle.table.specs.Table.{Call, Table}
 use Rattle.table.specs.Total.{totalOf}
+use Rattle.table.specs.Zeros.{noCall}
 use Rattle.table.specs.Lists.{Terms, roster, Ids, callAt, entries, held}
 use Rattle.table.specs.Rules.{rulesHold}
+use Rattle.table.proofs.Fresh.{zero-at}
+use Rattle.spec_changes.specs.Shape.{Shape}
+use Rattle.spec_changes.specs.Expiry.{raised, closingsOf, elapsed}
+use Rattle.spec_changes.proofs.Told.{rules-kept, kept-rules}
+use Rattle.spec_changes.proofs.Freed.{shape-sized, isIn}
+use Rattle.spec_changes.proofs.Expired.{elapsed-own, elapsed-call, elapsed-kept}
 use Rattle.answers.specs.declared.answer.Answer.{Answer}
 use Rattle.answers.specs.declared.answer.Answer.the-variants.{TableBroken, BufferTooSmall, Malformed, SenderNotListed, UnderOtherCall, NotHeld, CallOpened, CallAlreadyOpen, CallClosed, ConnectionAdded, ConnectionAlreadyHeld, ConnectionRemoved, CallIdContention, DuplicateCall, ConnectionsStillExist, UnknownCall, NoShare, PathUnknownCall, NoPlaceLeft}
 use Rattle.answers.specs.Answers.{is, errorCode, errorValue, sendsNotify, sendsPathErr}
-use Rattle.spec_calls.specs.Form.{Form, faulty, sound, readForm, formOf}
-use Rattle.spec_calls.specs.Handling.{formAnswer, errorFor, ownId, notifyFor, pathErrFor, answeredIds, answerOf, formReply, replyAfter, handled}
+use Rattle.spec_calls.specs.Form.{Form, faulty, sound, formOf}
+use Rattle.spec_calls.specs.Handling.{formAnswer, errorFor, ownId, notifyFor, pathErrFor, answeredIds, answerFrom2, formReply, replyAfter}
 use Rattle.spec_calls.specs.CallRules.{idsIn, nameless, openAnswer, closeAnswer}
 use Rattle.spec_calls.specs.PathRules.{heldBy, addAnswer}
 use Rattle.spec_calls.proofs.Sent.{notify-fits}
 use Rattle.spec_calls.proofs.Answered.{IdsFit, answered-fit, answered-bytes}
-use Rattle.spec_promises.specs.Claims.{InFront, BufferHolds, BufferAfter, ReplyAddsUp}
+use Rattle.spec_promises.specs.Promises.{Input, handledBy, fed, atOnce, tableFound}
+use Rattle.spec_promises.specs.Claims.{InFront, BufferAfter, ReplyAddsUp}
 use Rattle.spec_promises.proofs.Formed.{Says, form-says}
+use Rattle.spec_promises.proofs.Found.{found-by, answer-1, answer-is}
 
 -- every code has eight bits, every value sixteen
 error-fits : (a : Answer) → (errorCode a < 256) × (errorValue a < 65536)
@@ -181,34 +188,57 @@ module _ (t : Table) (s buffer : List ℕ) where
       by true e = rw (too-short (roster t) s (length buffer) e) (omega arith)
       by false e = form-fits t s buffer (ltb-false _ _ e) h form (form-says (roster t) s (length buffer))
 
-  reply-fits : length (replyAfter t s (length buffer) (answerOf t s (length buffer))) ≤ length buffer
-  unfolding replyAfter answerOf
-  reply-fits = by (rulesHold t) refl
+  pub message-fits : rulesHold t ≡ true → length (replyAfter t s (length buffer) (answerFrom2 t s (length buffer))) ≤ length buffer
+  unfolding replyAfter
+  message-fits = kept-fits
+
+  pub broken-none : replyAfter t s (length buffer) TableBroken ≡ []
+  unfolding replyAfter
+  broken-none = broken-reply t s form
+
+-- the reply goes by the table that the message finds: it keeps the rules where the one handed in does
+module _ (t : Table) (shape : Shape t) (x : Input) where
+  abbrev found : Table
+  found = tableFound t x
+
+  found-rules : rulesHold t ≡ true → rulesHold found ≡ true
+  found-rules h = by (atOnce (fed t x .answer))
     where
-      by : (b : Bool) → rulesHold t ≡ b → length (formReply t s form (cond (not b) TableBroken (formAnswer t s form))) ≤ length buffer
-      by true e = kept-fits e
-      by false e = rw (broken-reply t s form) (omega arith)
+      by : (b : Bool) → rulesHold (cond b t (elapsed t (x .time) (x .period))) ≡ true
+      by true = h
+      by false = kept-rules (elapsed t (x .time) (x .period)) (elapsed-kept t (x .time) (x .period) (shape-sized t shape) (rules-kept t h))
+
+  abbrev reply : List ℕ
+  reply = replyAfter found (x .message) (length (x .buffer)) (fed t x .answer)
+
+  -- 1 sends nothing; any other answer is that from test 2 on
+  by-rules : (P : List ℕ → Type 0) → P [] → (rulesHold t ≡ true → P (replyAfter found (x .message) (length (x .buffer)) (answerFrom2 found (x .message) (length (x .buffer))))) → P reply
+  by-rules P none some = by (rulesHold t) refl
+    where
+      by : (b : Bool) → rulesHold t ≡ b → P reply
+      by true e = subst (λ a. P (replyAfter found (x .message) (length (x .buffer)) a)) (sym (answer-is t x e)) (some e)
+      by false e = subst P (sym (ap (λ a. replyAfter found (x .message) (length (x .buffer)) a) (answer-1 t x e) ∙ broken-none found (x .message) (x .buffer))) none
+
+  reply-fits : length reply ≤ length (x .buffer)
+  reply-fits = by-rules (λ r. length r ≤ length (x .buffer)) (omega arith) (λ e. message-fits found (x .message) (x .buffer) (found-rules e))
 
 pub buffer-after : BufferAfter
-buffer-after t s buffer = record { reply = in-front; none = λ e. nothing (replyAfter t s (length buffer) a) e }
+buffer-after t shape x = record { reply = subst (InFront r (x .buffer)) (sym (found-by t x .buffer)) in-front; none = λ e. found-by t x .buffer ∙ nothing r (sym (found-by t x .length) ∙ e) }
   where
-    a : Answer
-    a = answerOf t s (length buffer)
-
     r : List ℕ
-    r = replyAfter t s (length buffer) a
+    r = reply t shape x
 
-    in-front : InFront r buffer (atFront r buffer)
-    in-front = record { front = front-taken r buffer (length r) refl; behind = front-dropped r buffer; long = front-length r buffer (reply-fits t s buffer) }
+    in-front : InFront r (x .buffer) (atFront r (x .buffer))
+    in-front = record { front = front-taken r (x .buffer) (length r) refl; behind = front-dropped r (x .buffer); long = front-length r (x .buffer) (reply-fits t shape x) }
 
-    nothing : (r : List ℕ) → length r ≡ 0 → atFront r buffer ≡ buffer
-    nothing [] e = nothing-written buffer
-    nothing (x ∷ r) e = let z : ⊥ = omega arith in absurd z
+    nothing : (r : List ℕ) → length r ≡ 0 → atFront r (x .buffer) ≡ x .buffer
+    nothing [] e = nothing-written (x .buffer)
+    nothing (y ∷ r) e = let z : ⊥ = omega arith in absurd z
 
 module _ (t : Table) (s buffer : List ℕ) (bytes : Bytes s) (address : t .address < 0x100000000) (next : t .next < 0x100000000) (names : (i : ℕ) → Bytes (callAt t i .name)) where
-  kept-sum : rulesHold t ≡ true → 0 < length (formReply t s (form t s buffer) (formAnswer t s (form t s buffer)))
-      → wordsSum (formReply t s (form t s buffer) (formAnswer t s (form t s buffer))) ≡ 65535
-  kept-sum h some = by (ltb (length buffer) leastBuffer) refl
+  message-sum : rulesHold t ≡ true → 0 < length (replyAfter t s (length buffer) (answerFrom2 t s (length buffer))) → wordsSum (replyAfter t s (length buffer) (answerFrom2 t s (length buffer))) ≡ 65535
+  unfolding replyAfter
+  message-sum h some = by (ltb (length buffer) leastBuffer) refl
     where
       by : (b : Bool) → ltb (length buffer) leastBuffer ≡ b → wordsSum (formReply t s (form t s buffer) (formAnswer t s (form t s buffer))) ≡ 65535
       by true e =
@@ -217,15 +247,37 @@ module _ (t : Table) (s buffer : List ℕ) (bytes : Bytes s) (address : t .addre
           absurd z
       by false e = form-sum t s buffer (ltb-false _ _ e) h bytes address next names (form t s buffer) (form-says (roster t) s (length buffer)) some
 
-  reply-sum : 0 < length (replyAfter t s (length buffer) (answerOf t s (length buffer))) → wordsSum (replyAfter t s (length buffer) (answerOf t s (length buffer))) ≡ 65535
-  unfolding replyAfter answerOf
-  reply-sum = by (rulesHold t) refl
+-- a free slot's name is bytes too
+no-name : Bytes (noCall .name)
+unfolding noCall
+no-name k = omega (arith, zero-at 32 k)
+
+module _ (t : Table) (shape : Shape t) (x : Input) (address : t .address < 0x100000000) (next : t .next < 0x100000000) (names : (i : ℕ) → Bytes (callAt t i .name)) where
+  abbrev Numbers : Table → Type 0
+  Numbers u = (u .address < 0x100000000) × (u .next < 0x100000000) × ((i : ℕ) → Bytes (callAt u i .name))
+
+  found-numbers : Numbers (tableFound t x)
+  found-numbers = by (atOnce (fed t x .answer))
     where
-      by : (b : Bool) → rulesHold t ≡ b → 0 < length (formReply t s (form t s buffer) (cond (not b) TableBroken (formAnswer t s (form t s buffer))))
-          → wordsSum (formReply t s (form t s buffer) (cond (not b) TableBroken (formAnswer t s (form t s buffer)))) ≡ 65535
-      by true e h = kept-sum e h
-      by false e h = let z : ⊥ = omega (arith, h, ap length (broken-reply t s (form t s buffer))) in absurd z
+      left : (b : Bool) (c : Call) → Bytes (c .name) → Bytes (cond b noCall c .name)
+      left true c h = no-name
+      left false c h = h
+
+      by : (b : Bool) → Numbers (cond b t (elapsed t (x .time) (x .period)))
+      by true = (address, next, names)
+      by false = (
+        rw (elapsed-own t (x .time) (x .period) .0) address,
+        rw (elapsed-own t (x .time) (x .period) .2) next,
+        λ i. rw (elapsed-call t (x .time) (x .period) (shape-sized t shape) i) (left (isIn (closingsOf (raised t (x .time)) (x .period)) i) (callAt t i) (names i)),
+      )
+
+  reply-sum : 0 < length (reply t shape x) → wordsSum (reply t shape x) ≡ 65535
+  reply-sum =
+      by-rules t shape x (λ r. 0 < length r → wordsSum r ≡ 65535) (λ h. let z : ⊥ = omega arith in absurd z)
+      (λ e. message-sum (tableFound t x) (x .message) (x .buffer) (x .bytes) (found-numbers .0) (found-numbers .1) (found-numbers .2) (found-rules t shape x e))
 
 pub reply-adds-up : ReplyAddsUp
-reply-adds-up t s buffer bytes address next names some =
-    ap wordsSum (buffer-after t s buffer .reply .front) ∙ reply-sum t s buffer bytes address next names some
+reply-adds-up t shape x address next names some =
+    let n = found-by t x .length in
+    ap (λ (m : ℕ). wordsSum (take m (handledBy t x .buffer))) n ∙ ap wordsSum (buffer-after t shape x .reply .front)
+    ∙ reply-sum t shape x address next names (omega (arith, n, some))

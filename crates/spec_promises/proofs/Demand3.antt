@@ -33,15 +33,16 @@ use Rattle.spec_calls.specs.Form.{Form, faulty, sound, formOf}
 use Rattle.spec_calls.specs.CallRules.{idsIn, isRetry, shortTaken, longTaken}
 use Rattle.spec_calls.specs.PathRules.{lspOf, heldBy}
 use Rattle.spec_calls.specs.Handling.{formAnswer, answerFrom2}
-use Rattle.spec_promises.specs.Ledger.{Fed, fourOf, withOpened, feed, ledger, answered}
+use Rattle.spec_promises.specs.Ledger.{Fed, fourOf, withOpened, feed, dropped, ledger, answered, lapsed}
 use Rattle.spec_promises.specs.Connections.{heldOf, feedHeld, connectionsAfter}
-use Rattle.spec_promises.specs.Promises.{Input, fed, tableThen, AtEveryStep, dueAnswer, Promised, Agrees}
+use Rattle.spec_promises.specs.Promises.{Input, fed, tableThen, tableFound, AtEveryStep, dueAnswer, Promised, Agrees}
 use Rattle.spec_promises.specs.Claims.{Demand3, Demand3From, AgreesThroughout, AgreesFrom, ConnectionsThroughout, ConnectionsFrom}
 use Rattle.spec_calls.proofs.Decided.{open-never, open-same, close-never, add-never, drop-never}
 use Rattle.spec_promises.proofs.Due.{open-due}
 use Rattle.spec_promises.proofs.Formed.{Says, form-says}
-use Rattle.spec_promises.proofs.Step.{answer-is, step-agrees, step-roster, step-opens, step-closes, step-held}
-use Rattle.spec_promises.proofs.Named.{form-stays, retry-is-21, setup-cause}
+use Rattle.spec_promises.proofs.Step.{found-agrees, found-roster, found-total, answer-found, step-agrees, step-roster, step-opens, step-closes, step-held}
+use Rattle.spec_promises.proofs.Named.{form-stays, found-sound, retry-is-21, setup-cause}
+use Rattle.spec_promises.proofs.Lapsed.{found-counted, closings-promised}
 
 -- ---- opened is count and closed
 
@@ -79,7 +80,7 @@ sums-by a l m c false false o k n e f u h = omega arith
 not-both : (a : Answer) → is 20 a ≡ true → is 22 a ≡ false
 not-both a h = rw (eqb-true (answerNumber a) 20 h)
 
-module _ (t : Table) (l : List Entry) (g : Agrees t l) where
+module _ (t : Table) where
   form-never-1 : (s : List ℕ) (f : Form) → Says (roster t) s f → is 1 (formAnswer t s f) ≡ false
   form-never-1 s (faulty a) i = i .not1
   form-never-1 s (sound (Open q)) i = open-never (totalOf t) (roster t) (entries t) s q 1 refl refl refl refl refl
@@ -87,57 +88,75 @@ module _ (t : Table) (l : List Entry) (g : Agrees t l) where
   form-never-1 s (sound (Add c)) i = add-never (entries t) (held t) (heldBy c) 1 refl refl refl refl refl
   form-never-1 s (sound (Drop c)) i = drop-never (held t) (lspOf (c .lsp)) 1 refl refl
 
-  -- ---- what the ledger promises of one message
+-- ---- what the ledger promises of one message
 
+module _ (t : Table) (l : List Entry) (g : Agrees t l) where
   module _ (x : Input) where
-    answer : fed t x .answer ≡ answerFrom2 t (x .message) (length (x .buffer))
-    answer = answer-is t (x .message) (length (x .buffer)) (g .rules)
+    abbrev found : List Entry
+    found = dropped (fed t x .closings) l
 
     never-one : answerNumber (fed t x .answer) ≢ 1
-    never-one =
-        eqb-false _ _
-        (rw answer (form-never-1 (x .message) (formOf (roster t) (x .message) (length (x .buffer))) (form-says (roster t) (x .message) (length (x .buffer)))))
+    never-one = eqb-false _ _ (by (tableFound t x) (fed t x .answer) (answer-found t l g x))
+      where
+        by : (u : Table) (a : Answer) → a ≡ answerFrom2 u (x .message) (length (x .buffer)) → is 1 a ≡ false
+        by u a e = rw e (form-never-1 u (x .message) (formOf (roster u) (x .message) (length (x .buffer))) (form-says (roster u) (x .message) (length (x .buffer))))
 
-    counted : (a o k : ℕ) → o ≡ callsOf l a + k
+    -- a customer's calls are those that the closings leave and those that they list
+    lapsed-counted : (a : ℕ) → callsOf l a ≡ callsOf found a + countIf (λ c. eqb (c .address) a) (fed t x .closings)
+    lapsed-counted a = omega (arith, g .calls (from a), found-agrees t l g x .calls (from a), found-counted t l g x a)
+
+    counted : (a o k : ℕ) → o ≡ callsOf found a + k
         → bit (is 20 (fed t x .answer) && eqb (fourOf (x .message) .sender) a) + o
-        ≡ callsOf (feed (totalOf t) (fed t x) l) a + (bit (is 22 (fed t x .answer) && eqb (fourOf (x .message) .sender) a) + k)
+        ≡ callsOf (feed (totalOf t) (fed t x) found) a + (bit (is 22 (fed t x .answer) && eqb (fourOf (x .message) .sender) a) + k)
     counted a o k e =
-        sums-by a l (withOpened (totalOf t) l (x .message)) (fourOf (x .message)) (is 20 (fed t x .answer)) (is 22 (fed t x .answer)) o k
+        sums-by a found (withOpened (totalOf t) found (x .message)) (fourOf (x .message)) (is 20 (fed t x .answer)) (is 22 (fed t x .answer)) o k
         (not-both (fed t x .answer))
         (λ e. step-opens t l g x e a)
         (λ q. step-closes t l g x q .0)
-        (rw (← (g .calls (λ e. sameShort (fourOf (x .message)) (e .ids)))) (rules-kept t (g .rules) .calls .shorts (fourOf (x .message)))) e
+        (rw (← (found-agrees t l g x .calls (λ e. sameShort (fourOf (x .message)) (e .ids)))) (rules-kept (tableFound t x) (found-agrees t l g x .rules) .calls .shorts (fourOf (x .message)))) e
 
-    limited : (a : ℕ) → isListed (roster t) a ≡ true → callsOf (feed (totalOf t) (fed t x) l) a ≤ limitOf (roster t) a
+    limited : (a : ℕ) → isListed (roster t) a ≡ true → callsOf (feed (totalOf t) (fed t x) found) a ≤ limitOf (roster t) a
     limited a known =
         let n = step-agrees t l g x in
         rw (← (n .calls (from a)), ← (step-roster t l g x)) (rules-kept (tableThen t x) (n .rules) .calls .limits a (rw (step-roster t l g x) known))
 
     due : (q : CallRequest) → formOf (roster t) (x .message) (length (x .buffer)) ≡ sound (Open q)
-        → isRetry l (x .message) q ≡ false → longTaken l (x .message) q ≡ false → shortTaken l (x .message) q ≡ false
-        → answerNumber (fed t x .answer) ≡ dueAnswer (totalOf t) (roster t) l (q .sender)
+        → isRetry found (x .message) q ≡ false → longTaken found (x .message) q ≡ false → shortTaken found (x .message) q ≡ false
+        → answerNumber (fed t x .answer) ≡ dueAnswer (totalOf t) (roster t) found (q .sender)
     due q e a b c =
-        rw (answer, e, open-same (totalOf t) (roster t) (entries t) l (x .message) q (g .calls))
-        (open-due (totalOf t) (roster t) l (x .message) q
-        (guarantee-within (totalOf t) (roster t) (q .sender) (roster-kept t (rules-kept t (g .rules) .accepted) .shares)) a b c)
+        by (tableFound t x) (fed t x .answer) found (found-total t l g x) (found-roster t l g x) (answer-found t l g x) (found-sound t l g x q e) (found-agrees t l g x) a b c
+      where
+        by : (u : Table) (d : Answer) (k : List Entry) → totalOf u ≡ totalOf t → roster u ≡ roster t → d ≡ answerFrom2 u (x .message) (length (x .buffer))
+            → formOf (roster u) (x .message) (length (x .buffer)) ≡ sound (Open q) → Agrees u k
+            → isRetry k (x .message) q ≡ false → longTaken k (x .message) q ≡ false → shortTaken k (x .message) q ≡ false
+            → answerNumber d ≡ dueAnswer (totalOf t) (roster t) k (q .sender)
+        by u d k n r e f h a b c =
+            rw (e, f, open-same (totalOf u) (roster u) (entries u) k (x .message) q (h .calls), n, r)
+            (open-due (totalOf t) (roster t) k (x .message) q
+            (guarantee-within (totalOf t) (roster t) (q .sender) (roster-kept t (rules-kept t (g .rules) .accepted) .shares)) a b c)
 
 -- ---- the whole list
 
--- the calls opened, those at the start among them, are the count plus the calls closed
+-- the calls opened, those at the start among them, are the count plus the calls closed and those that nobody refreshed
 abbrev Counted : ℕ → List Entry → List Fed → Type 0
-Counted total start h = (sender : ℕ) → callsOf start sender + answered 20 sender h ≡ callsOf (ledger total start h) sender + answered 22 sender h
+Counted total start h = (sender : ℕ) → callsOf start sender + answered 20 sender h ≡ callsOf (ledger total start h) sender + (answered 22 sender h + lapsed sender h)
 
 module _ (t : Table) (start : List Entry) (h : List Fed) (x : Input) where
   abbrev entered : List Entry
   entered = ledger (totalOf t) start h
 
   step-counted : Agrees t entered → Counted (totalOf t) start h → Counted (totalOf t) start (fed t x ∷ h)
-  step-counted g u a = omega (arith, counted t entered g x a (callsOf start a + answered 20 a h) (answered 22 a h) (u a))
+  step-counted g u a =
+      omega (
+        arith,
+        counted t entered g x a (callsOf start a + answered 20 a h) (answered 22 a h + lapsed a h + countIf (λ c. eqb (c .address) a) (fed t x .closings)) (omega (arith, u a, lapsed-counted t entered g x a)),
+      )
 
   step-promised : Agrees t entered → Counted (totalOf t) start h → Promised (totalOf t) (roster t) start t h x
   step-promised g u = record {
     neverOne = never-one t entered g x;
-    defined = answer t entered g x;
+    defined = answer-found t entered g x;
+    closings = closings-promised t entered g x;
     counted = step-counted g u;
     limited = limited t entered g x;
     due = due t entered g x;
@@ -169,7 +188,7 @@ module _ (total : ℕ) (r : List Terms) (start : List Entry) (lit : List Held) w
   running-on t h x i = record {
     totalIs = ap totalFor (form-stays t x) ∙ i .totalIs;
     roster = step-roster t (ledger total start h) (i .agrees) x ∙ i .roster;
-    agrees = subst (λ n. Agrees (tableThen t x) (feed n (fed t x) (ledger total start h))) (i .totalIs) (step-agrees t (ledger total start h) (i .agrees) x);
+    agrees = subst (λ n. Agrees (tableThen t x) (feed n (fed t x) (dropped (fed t x .closings) (ledger total start h)))) (i .totalIs) (step-agrees t (ledger total start h) (i .agrees) x);
     counted = subst (λ n. Agrees t (ledger n start h) → Counted n start h → Counted n start (fed t x ∷ h)) (i .totalIs) (step-counted t start h x) (i .agrees) (i .counted);
     connections = λ p. step-held t (ledger total start h) (i .agrees) x p ∙ feed-same (fed t x) (held t) (connectionsAfter lit h) (i .connections) p;
   }

@@ -1,9 +1,12 @@
 pub mod Due
 pub mod Formed
+pub mod Found
 pub mod Agreement
 pub mod Step
 pub mod Connections
 pub mod Named
+pub mod Busy
+pub mod Lapsed
 pub mod Demand3
 pub mod Buffer
 pub mod Made

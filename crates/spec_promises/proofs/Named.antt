@@ -1,46 +1,40 @@
--- What a customer asks for by name: retries, refusals, the roster's form, the table rules, and calls with connections. The
+-- What a customer asks for by name: retries, refusals, the roster's form, the node's time and the table rules. The
 -- statements are those of specs/Claims.antt.
 -- Assumes nothing.
-use Prim.Native.Nat.{ℕ, _≤_, _<_}
+use Prim.Native.Nat.{ℕ}
 use native.Mathlib.Omega.{arith}
-use mathlib.Core.Path.{_≡_, refl}
+use mathlib.Core.Path.{_≡_, refl, sym, ap, _∙_, subst}
 use mathlib.Core.List.{List}
-use mathlib.Core.Bool.{Bool, true, false, cond, _&&_}
-use lib.Dec.{eqb}
+use mathlib.Core.Bool.{Bool, true, false, cond}
 use lib.ListN.{length}
-use borrow.Author.Tests.{eqb-true}
-use Rattle.lists.specs.Count.{countIf, has, without}
-use Rattle.lists.proofs.Tests.{both}
-use Rattle.lists.proofs.Count.{has-true, has-false, true-has, has-nothing, count-ext, count-split, count-without}
-use Rattle.messages.specs.declared.message.Message.{Message}
+use Rattle.messages.specs.declared.message.CallRequest.{CallRequest}
 use Rattle.messages.specs.declared.message.Message.the-variants.{Open, Close, Add, Drop}
-use Rattle.messages.specs.declared.read.Reading.{Reading}
-use Rattle.messages.specs.declared.read.Reading.the-variants.{Refused, Unfit, Read}
-use Rattle.messages.specs.Read.{readOf}
 use Rattle.table.specs.Table.{Table}
 use Rattle.table.specs.Total.{totalOf}
-use Rattle.table.specs.Lists.{roster, Ids, Entry, entries, Held, held}
-use Rattle.table.specs.Rules.{samePair, sameShort, sameLong}
-use Rattle.spec_changes.specs.Calls.{opened, isCall, closed, identifierTaken}
-use Rattle.spec_changes.specs.Connections.{added, removed, isUnder}
-use Rattle.spec_changes.proofs.Opened.{opened-form}
-use Rattle.spec_changes.proofs.Tables.{closed-form, added-form, removed-form}
+use Rattle.table.specs.Lists.{roster, Ids, Entry, entries, Lsp, Held}
+use Rattle.spec_changes.specs.Calls.{New, opened, slotOf, closed, refreshedAt, identifierTaken}
+use Rattle.spec_changes.specs.Connections.{added, removed}
+use Rattle.spec_changes.specs.Expiry.{elapsed}
+use Rattle.spec_changes.proofs.Opened.{opened-form, opened-time}
+use Rattle.spec_changes.proofs.Refreshed.{refreshed-form, refreshed-time}
+use Rattle.spec_changes.proofs.Expired.{elapsed-form, elapsed-time}
+use Rattle.spec_changes.proofs.Tables.{closed-form, closed-time, added-form, added-time, removed-form, removed-time}
 use Rattle.answers.specs.declared.answer.Answer.{Answer}
 use Rattle.answers.specs.declared.answer.Answer.the-variants.{TableBroken, BufferTooSmall, Malformed, SenderNotListed, UnderOtherCall, NotHeld, CallOpened, CallAlreadyOpen, CallClosed, ConnectionAdded, ConnectionAlreadyHeld, ConnectionRemoved, CallIdContention, DuplicateCall, ConnectionsStillExist, UnknownCall, NoShare, PathUnknownCall, NoPlaceLeft}
 use Rattle.answers.specs.Answers.{answerNumber, is, sendsNotify}
 use Rattle.spec_calls.specs.Form.{Form, faulty, sound, formOf}
-use Rattle.spec_calls.specs.CallRules.{idsIn, isNamedBy, isOpen}
+use Rattle.spec_calls.specs.CallRules.{idsIn, isNamedBy, isRetry}
 use Rattle.spec_calls.specs.Made.{newFor}
 use Rattle.spec_calls.specs.PathRules.{lspOf, heldBy}
-use Rattle.spec_calls.specs.Handling.{formTable, tableAfter}
-use Rattle.spec_promises.specs.Ledger.{fourOf, messageOpened, readOpened, withOpened}
-use Rattle.spec_promises.specs.Promises.{fed, tableThen, Unchanged}
-use Rattle.spec_promises.specs.Claims.{FormStays, RulesAfter, BusyCallStays, RetryIs21, SetupCause, RefusedUnchanged, QuietUnchanged}
+use Rattle.spec_calls.specs.Handling.{answerFrom2, formTable, tableAfter}
+use Rattle.spec_promises.specs.Ledger.{dropped}
+use Rattle.spec_promises.specs.Promises.{Input, fed, tableThen, atOnce, tableFound, Agrees, Unchanged, Cause}
+use Rattle.spec_promises.specs.Claims.{FormStays, TimeRises, RulesAfter, RetryIs21, SetupCause, RefusedUnchanged, QuietUnchanged}
 use Rattle.spec_calls.proofs.Decided.{open-again, open-same}
 use Rattle.spec_promises.proofs.Due.{open-cause}
 use Rattle.spec_promises.proofs.Formed.{numbered, fault-never}
-use Rattle.spec_promises.proofs.Step.{answer-is, step-agrees, step-closes}
-use Rattle.spec_promises.proofs.Connections.{connection-stays}
+use Rattle.spec_promises.proofs.Found.{found-by}
+use Rattle.spec_promises.proofs.Step.{found-agrees, found-roster, found-total, answer-found, step-agrees}
 
 -- ---- a refused message leaves calls and connections as they were
 
@@ -49,174 +43,159 @@ as-it-was t = record { occupied = refl; calls = refl; customers = refl }
 
 -- where no change is made, at most the next own identifier moves
 no-change : (t u : Table) (b notified : Bool) → b ≡ false → Unchanged t (cond notified (identifierTaken (cond b u t)) (cond b u t))
-no-change t u true notified e = let z : _≡_ {A = ℕ} 0 1 = cc in absurd (omega arith)
-no-change t u false true e = record { occupied = refl; calls = refl; customers = refl }
-no-change t u false false e = as-it-was t
+no-change t u b true e = rw e (record { occupied = refl; calls = refl; customers = refl })
+no-change t u b false e = rw e (as-it-was t)
 
-form-unchanged : (t : Table) (s : List ℕ) (f : Form) (a : Answer) → is 20 a ≡ false → is 22 a ≡ false → is 23 a ≡ false → is 25 a ≡ false
+form-unchanged : (t : Table) (s : List ℕ) (f : Form) (a : Answer) → is 20 a ≡ false → is 21 a ≡ false → is 22 a ≡ false → is 23 a ≡ false → is 25 a ≡ false
     → Unchanged t (formTable t s f a)
-form-unchanged t s (faulty _) a e20 e22 e23 e25 = as-it-was t
-form-unchanged t s (sound (Open q)) a e20 e22 e23 e25 = no-change t (opened t (newFor (entries t) s q)) (is 20 a) (sendsNotify a) e20
-form-unchanged t s (sound (Close q)) a e20 e22 e23 e25 = no-change t (closed t (idsIn s q)) (is 22 a) (sendsNotify a) e22
-form-unchanged t s (sound (Add c)) a e20 e22 e23 e25 = no-change t (added t (heldBy c)) (is 23 a) (sendsNotify a) e23
-form-unchanged t s (sound (Drop c)) a e20 e22 e23 e25 = no-change t (removed t (lspOf (c .lsp))) (is 25 a) (sendsNotify a) e25
+form-unchanged t s (faulty _) a e20 e21 e22 e23 e25 = as-it-was t
+form-unchanged t s (sound (Open q)) a e20 e21 e22 e23 e25 = rw e20 (no-change t (refreshedAt t (slotOf t (isNamedBy s q))) (is 21 a) (sendsNotify a) e21)
+form-unchanged t s (sound (Close q)) a e20 e21 e22 e23 e25 = no-change t (closed t (idsIn s q)) (is 22 a) (sendsNotify a) e22
+form-unchanged t s (sound (Add c)) a e20 e21 e22 e23 e25 = no-change t (added t (heldBy c)) (is 23 a) (sendsNotify a) e23
+form-unchanged t s (sound (Drop c)) a e20 e21 e22 e23 e25 = no-change t (removed t (lspOf (c .lsp))) (is 25 a) (sendsNotify a) e25
+
+-- a message in the table that it finds
+message-unchanged : (t : Table) (s : List ℕ) (room : ℕ) (a : Answer) → is 20 a ≡ false → is 21 a ≡ false → is 22 a ≡ false → is 23 a ≡ false → is 25 a ≡ false
+    → Unchanged t (tableAfter t s room a)
+unfolding tableAfter
+message-unchanged t s room a = form-unchanged t s (formOf (roster t) s room) a
 
 pub refused-unchanged : RefusedUnchanged
-unfolding tableAfter
-refused-unchanged t x =
-    form-unchanged t (x .message) (formOf (roster t) (x .message) (length (x .buffer))) (fed t x .answer)
+refused-unchanged t x e20 e21 e22 e23 e25 =
+    subst (Unchanged (tableFound t x)) (sym (found-by t x .table)) (message-unchanged (tableFound t x) (x .message) (length (x .buffer)) (fed t x .answer) e20 e21 e22 e23 e25)
 
--- 20 and 22 send a Notify
-pub notified : (a : Answer) → sendsNotify a ≡ false → (is 20 a ≡ false) × (is 22 a ≡ false)
-notified TableBroken e = (refl, refl)
-notified BufferTooSmall e = (refl, refl)
-notified (Malformed f) e = (fault-never (Malformed f) (numbered f) 20 (omega arith), fault-never (Malformed f) (numbered f) 22 (omega arith))
-notified SenderNotListed e = (refl, refl)
-notified UnderOtherCall e = (refl, refl)
-notified NotHeld e = (refl, refl)
-notified CallOpened e = (e, refl)
-notified CallAlreadyOpen e = (refl, refl)
-notified CallClosed e = (refl, e)
-notified ConnectionAdded e = (refl, refl)
-notified ConnectionAlreadyHeld e = (refl, refl)
-notified ConnectionRemoved e = (refl, refl)
-notified CallIdContention e = (refl, refl)
-notified DuplicateCall e = (refl, refl)
-notified ConnectionsStillExist e = (refl, refl)
-notified UnknownCall e = (refl, refl)
-notified NoShare e = (refl, refl)
-notified PathUnknownCall e = (refl, refl)
-notified NoPlaceLeft e = (refl, refl)
+-- 20, 21 and 22 send a Notify
+pub notified : (a : Answer) → sendsNotify a ≡ false → (is 20 a ≡ false) × (is 21 a ≡ false) × (is 22 a ≡ false)
+notified TableBroken e = (refl, refl, refl)
+notified BufferTooSmall e = (refl, refl, refl)
+notified (Malformed f) e = (fault-never (Malformed f) (numbered f) 20 (omega arith), fault-never (Malformed f) (numbered f) 21 (omega arith), fault-never (Malformed f) (numbered f) 22 (omega arith))
+notified SenderNotListed e = (refl, refl, refl)
+notified UnderOtherCall e = (refl, refl, refl)
+notified NotHeld e = (refl, refl, refl)
+notified CallOpened e = (e, refl, refl)
+notified CallAlreadyOpen e = (refl, e, refl)
+notified CallClosed e = (refl, refl, e)
+notified ConnectionAdded e = (refl, refl, refl)
+notified ConnectionAlreadyHeld e = (refl, refl, refl)
+notified ConnectionRemoved e = (refl, refl, refl)
+notified CallIdContention e = (refl, refl, refl)
+notified DuplicateCall e = (refl, refl, refl)
+notified ConnectionsStillExist e = (refl, refl, refl)
+notified UnknownCall e = (refl, refl, refl)
+notified NoShare e = (refl, refl, refl)
+notified PathUnknownCall e = (refl, refl, refl)
+notified NoPlaceLeft e = (refl, refl, refl)
 
 as-before : (t u : Table) (b n : Bool) → b ≡ false → n ≡ false → cond n (identifierTaken (cond b u t)) (cond b u t) ≡ t
 as-before t u b n e f = rw (e, f)
 
 form-quiet : (t : Table) (s : List ℕ) (f : Form) (a : Answer) → sendsNotify a ≡ false → is 23 a ≡ false → is 25 a ≡ false → formTable t s f a ≡ t
 form-quiet t s (faulty _) a n e23 e25 = refl
-form-quiet t s (sound (Open q)) a n e23 e25 = as-before t (opened t (newFor (entries t) s q)) (is 20 a) (sendsNotify a) (notified a n .0) n
-form-quiet t s (sound (Close q)) a n e23 e25 = as-before t (closed t (idsIn s q)) (is 22 a) (sendsNotify a) (notified a n .1) n
+form-quiet t s (sound (Open q)) a n e23 e25 = rw (notified a n .0) (as-before t (refreshedAt t (slotOf t (isNamedBy s q))) (is 21 a) (sendsNotify a) (notified a n .1) n)
+form-quiet t s (sound (Close q)) a n e23 e25 = as-before t (closed t (idsIn s q)) (is 22 a) (sendsNotify a) (notified a n .2) n
 form-quiet t s (sound (Add c)) a n e23 e25 = as-before t (added t (heldBy c)) (is 23 a) (sendsNotify a) e23 n
 form-quiet t s (sound (Drop c)) a n e23 e25 = as-before t (removed t (lspOf (c .lsp))) (is 25 a) (sendsNotify a) e25 n
 
-pub quiet-unchanged : QuietUnchanged
+message-quiet : (t : Table) (s : List ℕ) (room : ℕ) (a : Answer) → sendsNotify a ≡ false → is 23 a ≡ false → is 25 a ≡ false → tableAfter t s room a ≡ t
 unfolding tableAfter
-quiet-unchanged t x =
-    form-quiet t (x .message) (formOf (roster t) (x .message) (length (x .buffer))) (fed t x .answer)
+message-quiet t s room a = form-quiet t s (formOf (roster t) s room) a
 
--- ---- the roster's form stays
+pub quiet-unchanged : QuietUnchanged
+quiet-unchanged t x n e23 e25 = found-by t x .table ∙ message-quiet (tableFound t x) (x .message) (length (x .buffer)) (fed t x .answer) n e23 e25
 
-same-form : (t u : Table) (b notified : Bool) → u .form ≡ t .form → cond notified (identifierTaken (cond b u t)) (cond b u t) .form ≡ t .form
-same-form t u true true e = e
-same-form t u true false e = e
-same-form t u false true e = refl
-same-form t u false false e = refl
+-- ---- what no message changes: the roster's form, and the node's time once the message has found the table
 
-form-same : (t : Table) (s : List ℕ) (f : Form) (a : Answer) → formTable t s f a .form ≡ t .form
-form-same t s (faulty _) a = refl
-form-same t s (sound (Open q)) a = same-form t (opened t (newFor (entries t) s q)) (is 20 a) (sendsNotify a) (opened-form t (newFor (entries t) s q))
-form-same t s (sound (Close q)) a = same-form t (closed t (idsIn s q)) (is 22 a) (sendsNotify a) (closed-form t (idsIn s q))
-form-same t s (sound (Add c)) a = same-form t (added t (heldBy c)) (is 23 a) (sendsNotify a) (added-form t (heldBy c))
-form-same t s (sound (Drop c)) a = same-form t (removed t (lspOf (c .lsp))) (is 25 a) (sendsNotify a) (removed-form t (lspOf (c .lsp)))
+-- a field that no change touches
+pub record Untouched (f : Table → ℕ) : Type 0 where
+  pub next : (t : Table) → f (identifierTaken t) ≡ f t
+  pub opening : (t : Table) (c : New) → f (opened t c) ≡ f t
+  pub refresh : (t : Table) (i : ℕ) → f (refreshedAt t i) ≡ f t
+  pub close : (t : Table) (c : Ids) → f (closed t c) ≡ f t
+  pub add : (t : Table) (x : Held) → f (added t x) ≡ f t
+  pub remove : (t : Table) (x : Lsp) → f (removed t x) ≡ f t
+
+module _ (f : Table → ℕ) (o : Untouched f) where
+  same-by : (b : Bool) (u v : Table) (n : ℕ) → f u ≡ n → f v ≡ n → f (cond b u v) ≡ n
+  same-by true u v n p q = p
+  same-by false u v n p q = q
+
+  same-notified : (b : Bool) (u : Table) (n : ℕ) → f u ≡ n → f (cond b (identifierTaken u) u) ≡ n
+  same-notified true u n p = o .next u ∙ p
+  same-notified false u n p = p
+
+  form-same : (t : Table) (s : List ℕ) (m : Form) (a : Answer) → f (formTable t s m a) ≡ f t
+  form-same t s (faulty _) a = refl
+  form-same t s (sound (Open q)) a =
+      same-notified (sendsNotify a) _ (f t) (same-by (is 20 a) _ _ (f t) (o .opening t (newFor (entries t) s q)) (same-by (is 21 a) _ t (f t) (o .refresh t (slotOf t (isNamedBy s q))) refl))
+  form-same t s (sound (Close q)) a = same-notified (sendsNotify a) _ (f t) (same-by (is 22 a) _ t (f t) (o .close t (idsIn s q)) refl)
+  form-same t s (sound (Add c)) a = same-notified (sendsNotify a) _ (f t) (same-by (is 23 a) _ t (f t) (o .add t (heldBy c)) refl)
+  form-same t s (sound (Drop c)) a = same-notified (sendsNotify a) _ (f t) (same-by (is 25 a) _ t (f t) (o .remove t (lspOf (c .lsp))) refl)
+
+  message-same : (t : Table) (s : List ℕ) (room : ℕ) (a : Answer) → f (tableAfter t s room a) ≡ f t
+  unfolding tableAfter
+  message-same t s room a = form-same t s (formOf (roster t) s room) a
+
+  -- so it is as it was found
+  pub as-found : (t : Table) (x : Input) → f (tableThen t x) ≡ cond (atOnce (fed t x .answer)) (f t) (f (elapsed t (x .time) (x .period)))
+  as-found t x = ap f (found-by t x .table) ∙ message-same (tableFound t x) (x .message) (length (x .buffer)) (fed t x .answer) ∙ by (atOnce (fed t x .answer))
+    where
+      by : (b : Bool) → f (cond b t (elapsed t (x .time) (x .period))) ≡ cond b (f t) (f (elapsed t (x .time) (x .period)))
+      by true = refl
+      by false = refl
+
+form-untouched : Untouched (λ t. t .form)
+form-untouched = record { next = λ t. refl; opening = opened-form; refresh = refreshed-form; close = closed-form; add = added-form; remove = removed-form }
 
 pub form-stays : FormStays
-unfolding tableAfter
-form-stays t x = form-same t (x .message) (formOf (roster t) (x .message) (length (x .buffer))) (fed t x .answer)
+form-stays t x = as-found (λ u. u .form) form-untouched t x ∙ by (atOnce (fed t x .answer))
+  where
+    by : (b : Bool) → cond b (t .form) (elapsed t (x .time) (x .period) .form) ≡ t .form
+    by true = refl
+    by false = elapsed-form t (x .time) (x .period)
+
+time-untouched : Untouched (λ t. t .time)
+time-untouched = record { next = λ t. refl; opening = opened-time; refresh = refreshed-time; close = closed-time; add = added-time; remove = removed-time }
+
+pub time-rises : TimeRises
+time-rises t x = as-found (λ u. u .time) time-untouched t x ∙ ap (λ n. cond (atOnce (fed t x .answer)) (t .time) n) (elapsed-time t (x .time) (x .period))
 
 -- ---- a retry finds the call it opened
 
-pub retry-is-21 : RetryIs21
-retry-is-21 t l g x q e known = (number, refused-unchanged t x (other 20 refl) (other 22 refl) (other 23 refl) (other 25 refl))
-  where
-    number : answerNumber (fed t x .answer) ≡ 21
-    number =
-        rw (
-          answer-is t (x .message) (length (x .buffer)) (g .rules),
-          e,
-          open-again (totalOf t) (roster t) (entries t) (x .message) q (rw (g .calls (isNamedBy (x .message) q)) known),
-        )
+module _ (t : Table) (l : List Entry) (g : Agrees t l) (x : Input) (q : CallRequest) (e : formOf (roster t) (x .message) (length (x .buffer)) ≡ sound (Open q)) where
+  -- the message has no fault in the table that it finds
+  pub found-sound : formOf (roster (tableFound t x)) (x .message) (length (x .buffer)) ≡ sound (Open q)
+  found-sound = ap (λ r. formOf r (x .message) (length (x .buffer))) (found-roster t l g x) ∙ e
 
-    other : (n : ℕ) → eqb 21 n ≡ false → is n (fed t x .answer) ≡ false
-    other n e = rw number e
+  again : (u : Table) (k : List Entry) → Agrees u k → formOf (roster u) (x .message) (length (x .buffer)) ≡ sound (Open q) → isRetry k (x .message) q ≡ true
+      → answerFrom2 u (x .message) (length (x .buffer)) ≡ CallAlreadyOpen
+  again u k h f known = rw (f, open-again (totalOf u) (roster u) (entries u) (x .message) q (rw (h .calls (isNamedBy (x .message) q)) known))
+
+  pub answered-21 : isRetry (dropped (fed t x .closings) l) (x .message) q ≡ true → fed t x .answer ≡ CallAlreadyOpen
+  answered-21 known = answer-found t l g x ∙ again (tableFound t x) (dropped (fed t x .closings) l) (found-agrees t l g x) found-sound known
+
+refreshed-only : (t u : Table) (x : Input) (q : CallRequest) (a : Answer) → formOf (roster u) (x .message) (length (x .buffer)) ≡ sound (Open q) → a ≡ CallAlreadyOpen
+    → tableAfter u (x .message) (length (x .buffer)) a ≡ identifierTaken (refreshedAt u (slotOf u (isNamedBy (x .message) q)))
+unfolding tableAfter
+refreshed-only t u x q a f e = rw (f, e)
+
+pub retry-is-21 : RetryIs21
+retry-is-21 t l g x q e known =
+    let a = answered-21 t l g x q e known in
+    (ap answerNumber a, found-by t x .table ∙ refreshed-only t (tableFound t x) x q (fed t x .answer) (found-sound t l g x q e) a)
 
 -- ---- a setup that is refused had to be
 
 pub setup-cause : SetupCause
 setup-cause t l g x q e =
-    rw (answer-is t (x .message) (length (x .buffer)) (g .rules), e, open-same (totalOf t) (roster t) (entries t) l (x .message) q (g .calls))
-    (open-cause (totalOf t) (roster t) l (x .message) q)
+    let k = dropped (fed t x .closings) l in
+    by (tableFound t x) (fed t x .answer) k (found-total t l g x) (found-roster t l g x) (answer-found t l g x) (found-sound t l g x q e) (found-agrees t l g x)
+  where
+    by : (u : Table) (a : Answer) (k : List Entry) → totalOf u ≡ totalOf t → roster u ≡ roster t → a ≡ answerFrom2 u (x .message) (length (x .buffer))
+        → formOf (roster u) (x .message) (length (x .buffer)) ≡ sound (Open q) → Agrees u k → Cause (totalOf t) (roster t) k (x .message) q (answerNumber a)
+    by u a k n r d f h =
+        rw (d, f, open-same (totalOf u) (roster u) (entries u) k (x .message) q (h .calls), n, r) (open-cause (totalOf t) (roster t) k (x .message) q)
 
 -- ---- the rules hold after every message
 
 pub rules-after : RulesAfter
 rules-after t l g x = step-agrees t l g x .rules
-
--- ---- a call with connections stays
-
--- two calls in one slot are the same to every connection
-same-under : (c d e : Ids) → sameShort c e ≡ true → sameShort d e ≡ true → (x : Held) → isUnder c x ≡ isUnder d x
-unfolding sameShort
-same-under c d e p q x =
-    let a = both (samePair c e) (eqb (c .short) (e .short)) p in
-    let b = both (eqb (c .endpoint) (e .endpoint)) (eqb (c .sender) (e .sender)) (a .0) in
-    let f = both (samePair d e) (eqb (d .short) (e .short)) q in
-    let g = both (eqb (d .endpoint) (e .endpoint)) (eqb (d .sender) (e .sender)) (f .0) in
-    rw (
-      eqb-true (c .short) (e .short) (a .1),
-      eqb-true (c .endpoint) (e .endpoint) (b .0),
-      eqb-true (c .sender) (e .sender) (b .1),
-      eqb-true (d .short) (e .short) (f .1),
-      eqb-true (d .endpoint) (e .endpoint) (g .0),
-      eqb-true (d .sender) (e .sender) (g .1),
-    )
-
--- a call with connections is none of the calls that an entry of a call without any could be
-apart-from : (h : List Held) (c d : Ids) → has (isUnder c) h ≡ true → countIf (isUnder d) h ≡ 0 → (e : Entry) → (isCall d e && isCall c e) ≡ false
-apart-from h c d busy idle e = by (isCall d e) (isCall c e) refl refl
-  where
-    by : (a b : Bool) → isCall d e ≡ a → isCall c e ≡ b → (a && b) ≡ false
-    by true true p q =
-        let m = both (sameShort d (e .ids)) (sameLong d (e .ids)) p in
-        let n = both (sameShort c (e .ids)) (sameLong c (e .ids)) q in
-        let z : ⊥ = omega (arith, has-true (isUnder c) h busy, count-ext (isUnder c) (isUnder d) h (same-under c d (e .ids) (n .0) (m .0))) in
-        absurd z
-    by true false p q = refl
-    by false b p q = refl
-
--- an opening takes no entry away
-opened-more : (total : ℕ) (l : List Entry) (s : List ℕ) (p : Entry → Bool) → countIf p l ≤ countIf p (withOpened total l s)
-unfolding withOpened
-opened-more total l s p = by (readOf s)
-  where
-    of : (m : Message) → countIf p l ≤ countIf p (messageOpened total l s m)
-    of (Open q) = omega arith
-    of (Close q) = omega arith
-    of (Add c) = omega arith
-    of (Drop c) = omega arith
-
-    by : (r : Reading) → countIf p l ≤ countIf p (readOpened total l s r)
-    by (Refused fault offset headers) = omega arith
-    by (Unfit fault sender headers) = omega arith
-    by (Read m headers) = of m
-
-stays : (l k : List Entry) (c d : Ids) (b r : Bool) → countIf (isCall c) l ≤ countIf (isCall c) k → (r ≡ true → (e : Entry) → (isCall d e && isCall c e) ≡ false)
-    → 0 < countIf (isCall c) l → 0 < countIf (isCall c) (cond b k (cond r (without (isCall d) l) l))
-stays l k c d true r more apart h = omega arith
-stays l k c d false true more apart h =
-    omega (
-      arith,
-      count-without (isCall c) (isCall d) l,
-      count-split (isCall c) (isCall d) l,
-      has-false (λ e. isCall d e && isCall c e) l (has-nothing (λ e. isCall d e && isCall c e) l (apart refl)),
-    )
-stays l k c d false false more apart h = h
-
-pub busy-call-stays : BusyCallStays
-busy-call-stays t l g x c known busy = (still, λ y under. connection-stays t l g x y)
-  where
-    still : isOpen (entries (tableThen t x)) c ≡ true
-    still =
-        true-has (isCall c) (entries (tableThen t x))
-        (rw (step-agrees t l g x .calls (isCall c))
-        (stays l (withOpened (totalOf t) l (x .message)) c (fourOf (x .message)) (is 20 (fed t x .answer)) (is 22 (fed t x .answer)) (opened-more (totalOf t) l (x .message) (isCall c))
-        (λ e. apart-from (held t) c (fourOf (x .message)) busy (step-closes t l g x e .1))
-        (rw (← (g .calls (isCall c))) (has-true (isCall c) (entries t) known))))

@@ -1,9 +1,10 @@
 -- What the node promises, by name: the statements behind the auditor's questions (docs/ARCHITECTURE.md). Each is proved
 -- in proofs/ under the same name, written with hyphens. The node that each rules out is named beside it.
-use Prim.Native.Nat.{ℕ, _<_}
+use Prim.Native.Nat.{ℕ, max, _-_, _*_, _≤_, _<_}
 use mathlib.Core.Path.{_≡_}
 use mathlib.Core.List.{List, []}
-use mathlib.Core.Bool.{Bool, true, false, _&&_}
+use mathlib.Core.Bool.{Bool, true, false, cond, _&&_}
+use lib.Dec.{eqb}
 use lib.ListN.{length, take, drop}
 use Rattle.numbers.specs.BigEndian.{Bytes}
 use Rattle.numbers.specs.Checksum.{wordsSum}
@@ -13,19 +14,22 @@ use Rattle.messages.specs.declared.message.Message.the-variants.{Open}
 use Rattle.messages.specs.Status.{callBit}
 use Rattle.replies.specs.Messages.{notifyMadeBytes}
 use Rattle.table.specs.Table.{Table}
-use Rattle.table.specs.Total.{totalOf}
+use Rattle.table.specs.Total.{slots, totalOf}
+use Rattle.table.specs.Word.{isUsed}
 use Rattle.table.specs.Lists.{roster, Ids, Entry, callAt, entries, Held, held}
 use Rattle.table.specs.Rules.{rulesHold}
 use Rattle.table.specs.Roster.{rosterNumber, customersIn, totalIn, recordsIn, rosterAnswer, tableFor}
-use Rattle.spec_changes.specs.Calls.{isCall}
+use Rattle.spec_changes.specs.Shape.{Shape}
+use Rattle.spec_changes.specs.Calls.{isCall, slotOf, refreshedAt, identifierTaken}
 use Rattle.spec_changes.specs.Connections.{callMissing, isUnder}
+use Rattle.spec_changes.specs.Expiry.{Closing, isIdle}
 use Rattle.answers.specs.Answers.{answerNumber, is, sendsNotify}
 use Rattle.spec_calls.specs.Form.{sound, formOf}
-use Rattle.spec_calls.specs.CallRules.{nameless, isMadeBy, isOpen, isRetry}
-use Rattle.spec_calls.specs.Handling.{ownId, notifyFor, handled, replyAfter, answerOf}
-use Rattle.spec_promises.specs.Ledger.{Fed, feed, ledger}
+use Rattle.spec_calls.specs.CallRules.{nameless, isMadeBy, isNamedBy, isOpen, isRetry}
+use Rattle.spec_calls.specs.Handling.{ownId, notifyFor, replyAfter}
+use Rattle.spec_promises.specs.Ledger.{Fed, feed, dropped, ledger}
 use Rattle.spec_promises.specs.Connections.{connectionsAfter, isHeld, isTornDown, isSetUp}
-use Rattle.spec_promises.specs.Promises.{Input, fed, tableThen, AtEveryStep, Promised, Agrees, Unchanged, Cause}
+use Rattle.spec_promises.specs.Promises.{Input, handledBy, fed, tableThen, atOnce, tableFound, AtEveryStep, Promised, Agrees, Unchanged, Cause}
 
 -- ---- the runs that claims are about
 
@@ -104,12 +108,50 @@ BusyCallStays = AtOneMessage (λ t l x. (c : Ids) → isOpen (entries t) c ≡ t
     → (isOpen (entries (tableThen t x)) c ≡ true)
     × ((y : Held) → isUnder c y ≡ true → isHeld t y ≡ true → isTornDown (fed t x) y ≡ false → isHeld (tableThen t x) y ≡ true))
 
+-- ---- calls that nobody refreshes (02, A7): can a call vanish?
+
+-- a call that an answer lists as closed was there, in the slot and of the customer listed; it had no connections, and no
+-- refresh for five times the period, by the node's time as raised. A node that closes a call under a connection, or too
+-- early, or by the caller's clock where that has gone back, is none
+pub record Lapsed (t : Table) (x : Input) (c : Closing) : Type 0 where
+  pub inside : c .slot < slots
+  pub used : isUsed (t .occupied) (c .slot) ≡ true
+  pub address : callAt t (c .slot) .sender ≡ c .address
+  pub idle : isIdle (callAt t (c .slot)) ≡ true
+  pub long : 5 * x .period ≤ max (t .time) (x .time) - callAt t (c .slot) .refreshed
+
+abbrev pub sameClosing : Closing → Closing → Bool
+sameClosing c d = eqb (c .slot) (d .slot) && eqb (c .address) (d .address)
+
+abbrev pub ExpiredIdle : Type 0
+ExpiredIdle = (t : Table) (x : Input) (c : Closing) → has (sameClosing c) (fed t x .closings) ≡ true → Lapsed t x c
+
+-- every such call is listed and closed, where the message is not refused 1 or 2 and the period is not 0: a node that keeps
+-- a dead call, or closes it without saying so, is none
+abbrev pub ExpiredAll : Type 0
+ExpiredAll = AtOneMessage (λ t l x. (c : Closing) → atOnce (fed t x .answer) ≡ false → 0 < x .period → Lapsed t x c
+    → (has (sameClosing c) (fed t x .closings) ≡ true) × (isUsed (tableFound t x .occupied) (c .slot) ≡ false))
+
+-- any table: a period of 0 closes none
+abbrev pub Period0 : Type 0
+Period0 = (t : Table) (x : Input) → x .period ≡ 0 → fed t x .closings ≡ []
+
+-- any table: 1 and 2 leave the time as it is; every other message raises it to the caller's, and none lowers it
+abbrev pub TimeRises : Type 0
+TimeRises = (t : Table) (x : Input) → tableThen t x .time ≡ cond (atOnce (fed t x .answer)) (t .time) (max (t .time) (x .time))
+
 -- ---- retries and refusals
 
--- a setup that repeats an open call, by its IDs or, without names, by its two numbers, is answered 21, and calls and connections are as they were: no second copy
+-- 02, A7: a 21 sets the refresh of the call that the setup is for to the node's time, and takes the next own identifier. All
+-- else is as it was found: no second copy, no call lost
+abbrev pub Refreshed : Table → Input → CallRequest → Type 0
+Refreshed t x q = tableThen t x ≡ identifierTaken (refreshedAt (tableFound t x) (slotOf (tableFound t x) (isNamedBy (x .message) q)))
+
+-- a setup that repeats a call that is open after the closings, by its IDs or, without names, by its two numbers, is
+-- answered 21. A node that opens it a second time, or lets a call go that is asked for in time, is none
 abbrev pub RetryIs21 : Type 0
 RetryIs21 = AtOneMessage (λ t l x. (q : CallRequest) → formOf (roster t) (x .message) (length (x .buffer)) ≡ sound (Open q)
-    → isRetry l (x .message) q ≡ true → (answerNumber (fed t x .answer) ≡ 21) × Unchanged t (tableThen t x))
+    → isRetry (dropped (fed t x .closings) l) (x .message) q ≡ true → (answerNumber (fed t x .answer) ≡ 21) × Refreshed t x q)
 
 -- ---- calls that the node made (02, A6)
 
@@ -120,7 +162,7 @@ isMadeWith q c e = isMadeBy q e && isCall c e
 -- the reply is, byte for byte, the Notify with the answer whose SESSION and SESSION_ATTRIBUTE carry these IDs
 abbrev pub RepliesWith : Table → Input → CallRequest → Ids → Type 0
 RepliesWith t x q c =
-    replyAfter t (x .message) (length (x .buffer)) (fed t x .answer)
+    replyAfter (tableFound t x) (x .message) (length (x .buffer)) (fed t x .answer)
     ≡ notifyMadeBytes (x .message) (notifyFor (t .address) (ownId t) q callBit (fed t x .answer)) (c .short) (c .long)
 
 -- a setup without names that is answered 20 is entered so, with the IDs that its reply carries. Not so of a node that makes
@@ -128,32 +170,32 @@ RepliesWith t x q c =
 abbrev pub MadeEntered : Type 0
 MadeEntered = AtOneMessage (λ t l x. (q : CallRequest) → formOf (roster t) (x .message) (length (x .buffer)) ≡ sound (Open q) → nameless q ≡ true
     → is 20 (fed t x .answer) ≡ true
-    → (c : Ids) × (has (isMadeWith q c) (feed (totalOf t) (fed t x) l) ≡ true) × RepliesWith t x q c)
+    → (c : Ids) × (has (isMadeWith q c) (feed (totalOf t) (fed t x) (dropped (fed t x .closings) l)) ≡ true) × RepliesWith t x q c)
 
 -- as long as the ledger has it, whatever came in between, a setup without names of that pair and these numbers is a retry:
--- it is answered 21, its reply carries the same IDs, and calls and connections are as they were. Not so of a node that
+-- it is answered 21, its reply carries the same IDs, and nothing but its call's refresh changes. Not so of a node that
 -- opens the call a second time, or whose reply to the retry has another name, or the empty one
 abbrev pub MadeRetryIs21 : Type 0
 MadeRetryIs21 = AtOneMessage (λ t l x. (q : CallRequest) (c : Ids) → formOf (roster t) (x .message) (length (x .buffer)) ≡ sound (Open q) → nameless q ≡ true
-    → has (isMadeWith q c) l ≡ true
-    → (answerNumber (fed t x .answer) ≡ 21) × RepliesWith t x q c × Unchanged t (tableThen t x))
+    → has (isMadeWith q c) (dropped (fed t x .closings) l) ≡ true
+    → (answerNumber (fed t x .answer) ≡ 21) × RepliesWith t x q c × Refreshed t x q)
 
 -- a setup that is refused had to be: each refusal has its cause in the ledger (01, Every answer)
 abbrev pub SetupCause : Type 0
 SetupCause = AtOneMessage (λ t l x. (q : CallRequest) → formOf (roster t) (x .message) (length (x .buffer)) ≡ sound (Open q)
-    → Cause (totalOf t) (roster t) l (x .message) q (answerNumber (fed t x .answer)))
+    → Cause (totalOf t) (roster t) (dropped (fed t x .closings) l) (x .message) q (answerNumber (fed t x .answer)))
 
--- any table, any message: only 20, 22, 23 and 25 change calls or connections
+-- any table, any message: after the closings only 20, 22, 23 and 25 change calls or connections, and 21 a refresh
 abbrev pub RefusedUnchanged : Type 0
 RefusedUnchanged = (t : Table) (x : Input)
-    → is 20 (fed t x .answer) ≡ false → is 22 (fed t x .answer) ≡ false → is 23 (fed t x .answer) ≡ false → is 25 (fed t x .answer) ≡ false
-    → Unchanged t (tableThen t x)
+    → is 20 (fed t x .answer) ≡ false → is 21 (fed t x .answer) ≡ false → is 22 (fed t x .answer) ≡ false → is 23 (fed t x .answer) ≡ false → is 25 (fed t x .answer) ≡ false
+    → Unchanged (tableFound t x) (tableThen t x)
 
--- any table, any message: where no Notify is sent, the whole table is as it was, the next own identifier too, but for
--- 23 and 25
+-- any table, any message: where no Notify is sent, the whole table is as it was found after the closings, the next own
+-- identifier too, but for 23 and 25
 abbrev pub QuietUnchanged : Type 0
 QuietUnchanged = (t : Table) (x : Input)
-    → sendsNotify (fed t x .answer) ≡ false → is 23 (fed t x .answer) ≡ false → is 25 (fed t x .answer) ≡ false → tableThen t x ≡ t
+    → sendsNotify (fed t x .answer) ≡ false → is 23 (fed t x .answer) ≡ false → is 25 (fed t x .answer) ≡ false → tableThen t x ≡ tableFound t x
 
 -- ---- the reply buffer
 
@@ -163,18 +205,18 @@ pub record InFront (reply before after : List ℕ) : Type 0 where
   pub behind : drop (length reply) after ≡ drop (length reply) before
   pub long : length after ≡ length before
 
--- any table, message and buffer: the buffer holds the complete reply in front and its old bytes behind it, and where no
+-- any table of words, any message and buffer: the buffer holds the complete reply in front and its old bytes behind it, and where no
 -- reply is sent exactly its old bytes
-pub record BufferHolds (t : Table) (s buffer : List ℕ) : Type 0 where
-  pub reply : InFront (replyAfter t s (length buffer) (answerOf t s (length buffer))) buffer (handled t s buffer .buffer)
-  pub none : handled t s buffer .length ≡ 0 → handled t s buffer .buffer ≡ buffer
+pub record BufferHolds (t : Table) (x : Input) : Type 0 where
+  pub reply : InFront (replyAfter (tableFound t x) (x .message) (length (x .buffer)) (fed t x .answer)) (x .buffer) (handledBy t x .buffer)
+  pub none : handledBy t x .length ≡ 0 → handledBy t x .buffer ≡ x .buffer
 
 abbrev pub BufferAfter : Type 0
-BufferAfter = (t : Table) (s buffer : List ℕ) → BufferHolds t s buffer
+BufferAfter = (t : Table) → Shape t → (x : Input) → BufferHolds t x
 
 -- 01, Message layout: the words of every reply add up to FFFF. Every table that words are has numbers of 32 bits, and names
 -- of bytes
 abbrev pub ReplyAddsUp : Type 0
-ReplyAddsUp = (t : Table) (s buffer : List ℕ) → Bytes s → t .address < 0x100000000 → t .next < 0x100000000 → ((i : ℕ) → Bytes (callAt t i .name))
-    → 0 < handled t s buffer .length
-    → wordsSum (take (handled t s buffer .length) (handled t s buffer .buffer)) ≡ 65535
+ReplyAddsUp = (t : Table) → Shape t → (x : Input) → t .address < 0x100000000 → t .next < 0x100000000 → ((i : ℕ) → Bytes (callAt t i .name))
+    → 0 < handledBy t x .length
+    → wordsSum (take (handledBy t x .length) (handledBy t x .buffer)) ≡ 65535

@@ -1,10 +1,10 @@
--- The ledger (01, The ledger behind demand 3): fed with each message, its answer and the buffer's length, never with
--- the table.
+-- The ledger (01, The ledger behind demand 3): fed with each message, its answer with the closings that it lists, and what
+-- else the caller hands in, never with the table.
 use Prim.Native.Nat.{ℕ}
 use mathlib.Core.List.{List, [], _∷_}
-use mathlib.Core.Bool.{cond, _&&_}
+use mathlib.Core.Bool.{Bool, cond, _&&_}
 use lib.Dec.{eqb}
-use Rattle.lists.specs.Count.{countIf, has, without}
+use Rattle.lists.specs.Count.{countIf, has, without, sumOf}
 use Rattle.lists.specs.Below.{firstNot}
 use Rattle.messages.specs.declared.message.Message.{Message}
 use Rattle.messages.specs.declared.message.Message.the-variants.{Open, Close, Add, Drop}
@@ -13,6 +13,7 @@ use Rattle.messages.specs.declared.read.Reading.the-variants.{Refused, Unfit, R
 use Rattle.messages.specs.Read.{readOf}
 use Rattle.table.specs.Lists.{Ids, Entry}
 use Rattle.spec_changes.specs.Calls.{entryFor, isCall}
+use Rattle.spec_changes.specs.Expiry.{Closing}
 use Rattle.answers.specs.declared.answer.Answer.{Answer}
 use Rattle.answers.specs.Answers.{is}
 use Rattle.spec_calls.specs.CallRules.{idsIn}
@@ -21,7 +22,10 @@ use Rattle.spec_calls.specs.Made.{newFor}
 pub record Fed : Type 0 where
   pub message : List ℕ
   pub room : ℕ
+  pub time : ℕ
+  pub period : ℕ
   pub answer : Answer
+  pub closings : List Closing
 
 -- the message's four; only a Notify that is read as a request has them
 abbrev pub noFour : Ids
@@ -68,11 +72,22 @@ feed total e l =
     (cond (is 22 (e .answer)) (without (isCall (fourOf (e .message))) l)
     l)
 
--- the entries after what was fed, the latest first, from those at the start
+-- 02, A7: an entry's slot is listed; the calls that nobody refreshed are dropped, by slot
+abbrev pub isClosed : List Closing → Entry → Bool
+isClosed closings e = has (λ c. eqb (e .slot) (c .slot)) closings
+
+abbrev pub dropped : List Closing → List Entry → List Entry
+dropped closings l = without (isClosed closings) l
+
+-- the entries after what was fed, the latest first, from those at the start; the closings come before the message
 abbrev pub ledger : ℕ → List Entry → List Fed → List Entry
 ledger total start [] = start
-ledger total start (e ∷ h) = feed total e (ledger total start h)
+ledger total start (e ∷ h) = feed total e (dropped (e .closings) (ledger total start h))
 
 -- how often a message of a sender was answered by a number: 20 is opened, 22 closed
 abbrev pub answered : ℕ → ℕ → List Fed → ℕ
 answered number sender h = countIf (λ e. is number (e .answer) && eqb (fourOf (e .message) .sender) sender) h
+
+-- how many calls of a sender were closed since nobody refreshed them (02, A7)
+abbrev pub lapsed : ℕ → List Fed → ℕ
+lapsed sender h = sumOf (λ e. countIf (λ c. eqb (c .address) sender) (e .closings)) h

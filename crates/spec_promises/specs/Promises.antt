@@ -3,12 +3,12 @@ use Prim.Native.Nat.{ℕ, _+_, _≤_}
 use mathlib.Core.Path.{_≡_}
 use mathlib.Core.Logic.{_⊎_, _≢_}
 use mathlib.Core.List.{List, [], _∷_}
-use mathlib.Core.Bool.{Bool, true, false, cond, _||_}
+use mathlib.Core.Bool.{Bool, true, false, cond, _&&_, _||_}
 use lib.Dec.{ltb, eqb}
 use lib.ListN.{length}
 use Rattle.numbers.specs.BigEndian.{Bytes}
 use Rattle.numbers.specs.Search.{isIn}
-use Rattle.lists.specs.Count.{countIf}
+use Rattle.lists.specs.Count.{countIf, has}
 use Rattle.messages.specs.declared.message.CallRequest.{CallRequest}
 use Rattle.messages.specs.declared.message.Message.the-variants.{Open}
 use Rattle.table.specs.Table.{Table}
@@ -16,23 +16,45 @@ use Rattle.table.specs.Lists.{Terms, Entry, entries}
 use Rattle.table.specs.Share.{isListed, guaranteeOf, limitOf, callsOf, S}
 use Rattle.table.specs.Rules.{rulesHold}
 use Rattle.spec_changes.specs.Shape.{Shape}
-use Rattle.answers.specs.Answers.{answerNumber}
+use Rattle.spec_changes.specs.Expiry.{Closing, Rising, elapsed}
+use Rattle.answers.specs.declared.answer.Answer.{Answer}
+use Rattle.answers.specs.Answers.{answerNumber, is}
 use Rattle.spec_calls.specs.Form.{sound, formOf}
 use Rattle.spec_calls.specs.CallRules.{nameless, isRetry, shortTaken, longTaken}
-use Rattle.spec_calls.specs.Handling.{answerFrom2, handled}
-use Rattle.spec_promises.specs.Ledger.{Fed, ledger, answered}
+use Rattle.spec_calls.specs.Handling.{answerFrom2, Handled, handled}
+use Rattle.spec_promises.specs.Ledger.{Fed, dropped, ledger, answered, lapsed}
 
 -- what the caller hands in beside the table; a message is a byte string
 pub record Input : Type 0 where
   pub message : List ℕ
   pub bytes : Bytes message
   pub buffer : List ℕ
+  pub time : ℕ
+  pub period : ℕ
+
+abbrev pub handledBy : Table → Input → Handled
+handledBy t x = handled t (x .message) (x .buffer) (x .time) (x .period)
 
 abbrev pub fed : Table → Input → Fed
-fed t x = record { message = x .message; room = length (x .buffer); answer = handled t (x .message) (x .buffer) .answer }
+fed t x = record {
+  message = x .message;
+  room = length (x .buffer);
+  time = x .time;
+  period = x .period;
+  answer = handledBy t x .answer;
+  closings = handledBy t x .closings;
+}
 
 abbrev pub tableThen : Table → Input → Table
-tableThen t x = handled t (x .message) (x .buffer) .table
+tableThen t x = handledBy t x .table
+
+-- 02, A7: "each message that isn't refused 1 or 2" finds the table after the closings; "as they were" and "equal" read
+-- from there
+abbrev pub atOnce : Answer → Bool
+atOnce a = is 1 a || is 2 a
+
+abbrev pub tableFound : Table → Input → Table
+tableFound t x = cond (atOnce (fed t x .answer)) t (elapsed t (x .time) (x .period))
 
 -- something holds at every step of a run: of the table, of what the ledger was fed before, latest first, and of the
 -- input
@@ -58,31 +80,46 @@ pub record Cause (total : ℕ) (r : List Terms) (l : List Entry) (s : List ℕ) 
   -- 02, A6: one without names is answered neither 30 nor 31
   pub unnamed : nameless q ≡ true → isIn number (20 ∷ 21 ∷ 34 ∷ []) ≡ true
 
+-- the ledger that a message is looked at with: the calls that its answer lists as closed before it are dropped (02, A7)
+abbrev pub ledgerFound : ℕ → List Entry → List Fed → Fed → List Entry
+ledgerFound total start h e = dropped (e .closings) (ledger total start h)
+
+-- what is said of the closings that an answer lists: each listed slot is that of one entry, whose sender is the address
+-- listed with it; slots rise, so that none is listed twice; and a message refused 2 lists none
+pub record ClosingsPromised (l : List Entry) (e : Fed) : Type 0 where
+  pub entered : (c : Closing) → has (λ d. eqb (c .slot) (d .slot) && eqb (c .address) (d .address)) (e .closings) ≡ true
+      → (countIf (λ f. eqb (c .slot) (f .slot)) l ≡ 1) × (countIf (λ f. eqb (c .slot) (f .slot) && eqb (c .address) (f .ids .sender)) l ≡ 1)
+  pub rising : Rising (e .closings)
+  pub none : is 2 (e .answer) ≡ true → e .closings ≡ []
+
 -- what holds of the answer to one input, and of the ledger after it
 pub record Promised (total : ℕ) (r : List Terms) (start : List Entry) (t : Table) (h : List Fed) (x : Input) : Type 0 where
   -- the table is never found broken
   pub neverOne : answerNumber (fed t x .answer) ≢ 1
-  -- the answer is the one that document 01 gives, test 1 left out
-  pub defined : fed t x .answer ≡ answerFrom2 t (x .message) (length (x .buffer))
-  -- of each customer, the calls opened are those in the ledger and those closed; those at the start count as opened
+  -- the answer is the one that document 01 gives, test 1 left out, in the table that the message finds
+  pub defined : fed t x .answer ≡ answerFrom2 (tableFound t x) (x .message) (length (x .buffer))
+  -- the calls said to be closed are calls of the ledger, and each is said once (02, A7)
+  pub closings : ClosingsPromised (ledger total start h) (fed t x)
+  -- of each customer, the calls opened are those in the ledger and those closed, by a 22 or since nobody refreshed them;
+  -- those at the start count as opened
   pub counted : (sender : ℕ)
-      → callsOf start sender + answered 20 sender (fed t x ∷ h) ≡ callsOf (ledger total start (fed t x ∷ h)) sender + answered 22 sender (fed t x ∷ h)
+      → callsOf start sender + answered 20 sender (fed t x ∷ h) ≡ callsOf (ledger total start (fed t x ∷ h)) sender + (answered 22 sender (fed t x ∷ h) + lapsed sender (fed t x ∷ h))
   -- no customer has more calls in the ledger than its limit
   pub limited : (sender : ℕ) → isListed r sender ≡ true → callsOf (ledger total start (fed t x ∷ h)) sender ≤ limitOf r sender
-  -- a setup of no fault, judged by the ledger before it, whose call is not open and whose IDs its pair does not use, is
-  -- answered what its customer is due; bytes and buffer length alone tell whether it has a fault. Without names, its call
-  -- is the one made for its two numbers, and neither ID counts as in use (02, A6)
+  -- a setup of no fault, judged by the ledger after its closings, whose call is not open and whose IDs its pair does not
+  -- use, is answered what its customer is due; bytes and buffer length alone tell whether it has a fault. Without names,
+  -- its call is the one made for its two numbers, and neither ID counts as in use (02, A6)
   pub due : (q : CallRequest) → formOf r (fed t x .message) (fed t x .room) ≡ sound (Open q)
-      → isRetry (ledger total start h) (x .message) q ≡ false
-      → longTaken (ledger total start h) (x .message) q ≡ false
-      → shortTaken (ledger total start h) (x .message) q ≡ false
-      → answerNumber (fed t x .answer) ≡ dueAnswer total r (ledger total start h) (q .sender)
+      → isRetry (ledgerFound total start h (fed t x)) (x .message) q ≡ false
+      → longTaken (ledgerFound total start h (fed t x)) (x .message) q ≡ false
+      → shortTaken (ledgerFound total start h (fed t x)) (x .message) q ≡ false
+      → answerNumber (fed t x .answer) ≡ dueAnswer total r (ledgerFound total start h (fed t x)) (q .sender)
   -- a setup of no fault whose call is open in the ledger is a retry and is answered 21: nothing is opened a second time
   pub retried : (q : CallRequest) → formOf r (fed t x .message) (fed t x .room) ≡ sound (Open q)
-      → isRetry (ledger total start h) (x .message) q ≡ true → answerNumber (fed t x .answer) ≡ 21
+      → isRetry (ledgerFound total start h (fed t x)) (x .message) q ≡ true → answerNumber (fed t x .answer) ≡ 21
   -- every setup of no fault that is refused has its cause in the ledger
   pub caused : (q : CallRequest) → formOf r (fed t x .message) (fed t x .room) ≡ sound (Open q)
-      → Cause total r (ledger total start h) (x .message) q (answerNumber (fed t x .answer))
+      → Cause total r (ledgerFound total start h (fed t x)) (x .message) q (answerNumber (fed t x .answer))
 
 -- a table that keeps the rules, and whose open calls are a ledger's entries, in any order
 pub record Agrees (t : Table) (l : List Entry) : Type 0 where

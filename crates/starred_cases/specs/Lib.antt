@@ -4,3 +4,4 @@ pub mod TwoHundred
 pub mod Replies
 pub mod PaddedNames
 pub mod Nameless
+pub mod Lapses

@@ -4,8 +4,8 @@ use mathlib.Core.Path.{_≡_}
 use mathlib.Core.List.{List, [], _∷_, _++_, map}
 use mathlib.Core.Bool.{true, false}
 use Rattle.table.specs.Roster.{rosterAnswer, tableFor}
-use Rattle.spec_calls.specs.Handling.{Handled, handled}
-use Rattle.starred_cases.specs.Run.{StepTo}
+use Rattle.spec_calls.specs.Handling.{Handled}
+use Rattle.starred_cases.specs.Run.{StepTo, atRest}
 use Rattle.starred_cases.specs.TwoCustomers.{notifyNumbered, X}
 use Rattle.starred_cases.specs.PaddedNames.{PaddedResult, PaddedCase, row, resultsFrom}
 
@@ -57,4 +57,4 @@ namelessResults step = resultsFrom step (tableFor (rosterAnswer limitOf3) limitO
 
 -- the definitions give what each row says
 abbrev pub NamelessHold : Type 0
-NamelessHold = namelessResults handled ≡ map (λ c. c .result) namelessCases
+NamelessHold = namelessResults atRest ≡ map (λ c. c .result) namelessCases

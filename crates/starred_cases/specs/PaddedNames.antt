@@ -7,8 +7,8 @@ use lib.ListN.{replicate}
 use Rattle.table.specs.Table.{Table}
 use Rattle.table.specs.Roster.{rosterAnswer, tableFor}
 use Rattle.answers.specs.Answers.{answerNumber}
-use Rattle.spec_calls.specs.Handling.{Handled, handled}
-use Rattle.starred_cases.specs.Run.{StepTo}
+use Rattle.spec_calls.specs.Handling.{Handled}
+use Rattle.starred_cases.specs.Run.{StepTo, atRest}
 use Rattle.starred_cases.specs.TwoCustomers.{unchanged, buffer, notifyWith, X}
 
 -- an answer, the reply's length, and whether calls and connections are as they were
@@ -65,4 +65,4 @@ paddedResults step = resultsFrom step (tableFor (rosterAnswer rosterBytes) roste
 
 -- the definitions give what each row says
 abbrev pub PaddedHold : Type 0
-PaddedHold = paddedResults handled ≡ map (λ c. c .result) paddedCases
+PaddedHold = paddedResults atRest ≡ map (λ c. c .result) paddedCases

@@ -7,8 +7,8 @@ use mathlib.Core.List.{List, [], _∷_, _++_, map}
 use lib.ListN.{replicate}
 use Rattle.table.specs.Roster.{rosterAnswer, tableFor}
 use Rattle.answers.specs.Answers.{answerNumber}
-use Rattle.spec_calls.specs.Handling.{Handled, handled}
-use Rattle.starred_cases.specs.Run.{StepTo, tableThrough}
+use Rattle.spec_calls.specs.Handling.{Handled}
+use Rattle.starred_cases.specs.Run.{StepTo, tableThrough, atRest}
 
 -- what a message is answered, the reply's length, and the whole buffer, where it held 132 bytes EE before
 pub record Replied : Type 0 where
@@ -148,4 +148,4 @@ replyCases =
 
 -- the definitions give these bytes and no others
 abbrev pub RepliesHold : Type 0
-RepliesHold = map (replied handled) replyCases ≡ map (λ c. c .expected) replyCases
+RepliesHold = map (replied atRest) replyCases ≡ map (λ c. c .expected) replyCases

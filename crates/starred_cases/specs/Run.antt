@@ -2,12 +2,16 @@
 use Prim.Native.Nat.{ℕ}
 use mathlib.Core.List.{List, [], _∷_}
 use Rattle.table.specs.Table.{Table}
-use Rattle.spec_calls.specs.Handling.{Handled}
+use Rattle.spec_calls.specs.Handling.{Handled, handled}
 
--- what handles a message, from table, message and reply buffer: `handled` in every claim. The proofs also run the rows by
+-- what handles a message, from table, message and reply buffer: `atRest` in every claim. The proofs also run the rows by
 -- one that does not test the table rules, which costs the checker less, and show that it comes to the same.
 abbrev pub StepTo : Type 0 → Type 0
 StepTo A = Table → List ℕ → List ℕ → A
+
+-- where no time passes: time and period are 0, as the tap hands them in
+abbrev pub atRest : StepTo Handled
+atRest t s buffer = handled t s buffer 0 0
 
 -- the table after some messages, each with the same buffer
 abbrev pub tableThrough : StepTo Handled → List ℕ → Table → List (List ℕ) → Table

@@ -16,8 +16,8 @@ use Rattle.table.specs.Share.{S}
 use Rattle.table.specs.Rules.{sameBytes}
 use Rattle.table.specs.Roster.{rosterNumber, rosterAnswer, tableFor}
 use Rattle.answers.specs.Answers.{answerNumber}
-use Rattle.spec_calls.specs.Handling.{Handled, handled}
-use Rattle.starred_cases.specs.Run.{StepTo, tableThrough}
+use Rattle.spec_calls.specs.Handling.{Handled}
+use Rattle.starred_cases.specs.Run.{StepTo, tableThrough, atRest}
 
 -- ---- rows
 
@@ -44,7 +44,7 @@ expected (ask before message outcome) = outcome
 abbrev fourNumbers : Four → List ℕ
 fourNumbers f = below (λ j. f .endpoint j ∷ placeAt f j .taken ∷ placeAt f j .tunnel ∷ placeAt f j .extended ∷ placeAt f j .lsp ∷ []) 4
 
--- what a slot says, but for the last refresh, which a table rule holds at zero
+-- what a slot says, but for the last refresh (02, A7: "the refresh a 21 sets left out")
 abbrev callNumbers : Call → List ℕ
 callNumbers c = c .endpoint ∷ c .sender ∷ c .epoch ∷ c .identifier ∷ c .id ∷ c .made ∷ c .size ∷ (c .name ++ fourNumbers (callFour c))
 
@@ -119,10 +119,10 @@ setup = notify 0x80000008
 abbrev pub close : ℕ → ℕ → ℕ → List ℕ
 close = notify 0x80000009
 
-abbrev path : ℕ → ℕ → List ℕ
+abbrev pub path : ℕ → ℕ → List ℕ
 path sender call = message 1 (session call 1 ++ template sender 1)
 
-abbrev pathTear : ℕ → ℕ → List ℕ
+abbrev pub pathTear : ℕ → ℕ → List ℕ
 pathTear sender call = message 5 (session call 1 ++ template sender 1)
 
 -- ---- the two customers
@@ -177,4 +177,4 @@ cases =
 
 -- the definitions give what 01 says of each row
 abbrev pub CasesHold : Type 0
-CasesHold = outcomes handled emptyTable cases ≡ map expected cases
+CasesHold = outcomes atRest emptyTable cases ≡ map expected cases

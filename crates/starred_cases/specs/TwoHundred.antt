@@ -11,8 +11,8 @@ use Rattle.table.specs.Table.{Table}
 use Rattle.table.specs.Zeros.{emptyTable}
 use Rattle.table.specs.Lists.{entries}
 use Rattle.table.specs.Roster.{rosterAnswer, tableFor}
-use Rattle.spec_calls.specs.Handling.{Handled, handled}
-use Rattle.starred_cases.specs.Run.{StepTo, tableThrough}
+use Rattle.spec_calls.specs.Handling.{Handled}
+use Rattle.starred_cases.specs.Run.{StepTo, tableThrough, atRest}
 use Rattle.starred_cases.specs.TwoCustomers.{StarredCase, begin, ask, expected, buffer, outcomes, setup, close, X, Y, rosterOf, callsOfY, after}
 
 -- a customer's record: address, guarantee 8 bits, limit 8 bits
@@ -53,7 +53,7 @@ twoHundred =
 
 -- the definitions give what 02 says of each row
 abbrev pub TwoHundredHold : Type 0
-TwoHundredHold = outcomes handled emptyTable twoHundred ≡ map expected twoHundred
+TwoHundredHold = outcomes atRest emptyTable twoHundred ≡ map expected twoHundred
 
 -- ---- slots beyond form 1's total
 
@@ -79,4 +79,4 @@ abbrev pub slotsDue : List ℕ
 slotsDue = 64 ∷ 3 ∷ 65 ∷ []
 
 abbrev pub LowestTaken : Type 0
-LowestTaken = slotsAfter handled ≡ slotsDue
+LowestTaken = slotsAfter atRest ≡ slotsDue

@@ -16,11 +16,11 @@ use Rattle.table.specs.Words.{bytesOf, nameAtWord, placeAtWord, placesAt
 pub call-at : (w : List ℕ) (i : ℕ) → i < slots → callAt (tableOf w) i ≡ callAtWord w (callStart i)
 call-at w i h = getD-each (λ i. callAtWord w (callStart i)) slots i _ h
 
-pub used-at : (w : List ℕ) (k : ℕ) → k < 4 → getD (occupiedOf w) k 0 ≡ getD w (5 + 2 * k) 0 + getD w (6 + 2 * k) 0 * 4294967296
-used-at w k h = getD-each (λ k. getD w (5 + 2 * k) 0 + getD w (6 + 2 * k) 0 * 4294967296) 4 k 0 h
+pub used-at : (w : List ℕ) (k : ℕ) → k < 4 → getD (occupiedOf w) k 0 ≡ getD w (6 + 2 * k) 0 + getD w (7 + 2 * k) 0 * 4294967296
+used-at w k h = getD-each (λ k. getD w (6 + 2 * k) 0 + getD w (7 + 2 * k) 0 * 4294967296) 4 k 0 h
 
 pub used-long : (w : List ℕ) → length (occupiedOf w) ≡ 4
-used-long w = length-each (λ k. getD w (5 + 2 * k) 0 + getD w (6 + 2 * k) 0 * 4294967296) 4
+used-long w = length-each (λ k. getD w (6 + 2 * k) 0 + getD w (7 + 2 * k) 0 * 4294967296) 4
 
 -- where each of the four words has 64 bits, they are a table's
 pub used-fit : (w : List ℕ) → ((k : ℕ) → k < 4 → getD (occupiedOf w) k 0 < 2 ^ 64) → FourWords (occupiedOf w)
@@ -87,15 +87,15 @@ module _ (w v : List ℕ) (b e : ℕ) where
       rw (f b e 0 (omega arith) (omega arith) (omega arith), h 1 (omega arith), h 2 (omega arith), n, p)
 
 module _ (w v : List ℕ) where
-  pub occupied-same : ((j : ℕ) → 5 ≤ j → j < 13 → getD v j 0 ≡ getD w j 0) → occupiedOf v ≡ occupiedOf w
+  pub occupied-same : ((j : ℕ) → 6 ≤ j → j < 14 → getD v j 0 ≡ getD w j 0) → occupiedOf v ≡ occupiedOf w
   occupied-same h =
-      below-ext _ _ 4 (λ k l. ap₂ (λ (x y : ℕ). (x + y * 4294967296) ∷ []) (h (5 + 2 * k) (omega arith) (omega arith)) (h (6 + 2 * k) (omega arith) (omega arith)))
+      below-ext _ _ 4 (λ k l. ap₂ (λ (x y : ℕ). (x + y * 4294967296) ∷ []) (h (6 + 2 * k) (omega arith) (omega arith)) (h (7 + 2 * k) (omega arith) (omega arith)))
 
-  pub customers-same : ((j : ℕ) → 13 ≤ j → j < 197 → getD v j 0 ≡ getD w j 0) → customersOf v ≡ customersOf w
+  pub customers-same : ((j : ℕ) → 14 ≤ j → j < 198 → getD v j 0 ≡ getD w j 0) → customersOf v ≡ customersOf w
   customers-same h =
       below-ext _ _ 8 (λ k l. ap (λ x. x ∷ []) (customer-same v w (customerStart k) (customerStart k) (λ j m. h (customerStart k + j) (omega arith) (omega arith))))
 
-  pub calls-same : ((j : ℕ) → 197 ≤ j → getD v j 0 ≡ getD w j 0) → slotsOf v ≡ slotsOf w
+  pub calls-same : ((j : ℕ) → 198 ≤ j → getD v j 0 ≡ getD w j 0) → slotsOf v ≡ slotsOf w
   calls-same h =
       below-ext _ _ slots (λ i l. ap (λ x. x ∷ []) (call-same v w (callStart i) (callStart i) (λ j m. h (callStart i + j) (omega arith))))
 

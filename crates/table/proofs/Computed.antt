@@ -91,10 +91,10 @@ connections = refl
 
 -- the head: slots 0, 33, 64, 100, 191 and 199 are used
 abbrev head : List ℕ
-head = 10 ∷ 11 ∷ 12 ∷ 13 ∷ 14 ∷ 1 ∷ 2 ∷ 1 ∷ 16 ∷ 0 ∷ 0x80000000 ∷ 0x80 ∷ 0 ∷ []
+head = 10 ∷ 11 ∷ 12 ∷ 15 ∷ 13 ∷ 14 ∷ 1 ∷ 2 ∷ 1 ∷ 16 ∷ 0 ∷ 0x80000000 ∷ 0x80 ∷ 0 ∷ []
 
-pub head-words : tableOf head .address ∷ tableOf head .epoch ∷ tableOf head .next ∷ tableOf head .listed ∷ tableOf head .form ∷ tableOf head .occupied
-    ≡ 10 ∷ 11 ∷ 12 ∷ 13 ∷ 14 ∷ 0x200000001 ∷ 0x1000000001 ∷ 0x8000000000000000 ∷ 0x80 ∷ []
+pub head-words : tableOf head .address ∷ tableOf head .epoch ∷ tableOf head .next ∷ tableOf head .time ∷ tableOf head .listed ∷ tableOf head .form ∷ tableOf head .occupied
+    ≡ 10 ∷ 11 ∷ 12 ∷ 15 ∷ 13 ∷ 14 ∷ 0x200000001 ∷ 0x1000000001 ∷ 0x8000000000000000 ∷ 0x80 ∷ []
 unfolding below
 head-words = refl
 
@@ -104,7 +104,7 @@ unfolding below isUsed
 head-slots = refl
 
 pub starts : customerStart 0 ∷ customerStart 1 ∷ customerStart 7 ∷ callStart 0 ∷ callStart 1 ∷ callStart 199 ∷ wordCount ∷ []
-    ≡ 13 ∷ 36 ∷ 174 ∷ 197 ∷ 229 ∷ 6565 ∷ 6597 ∷ []
+    ≡ 14 ∷ 37 ∷ 175 ∷ 198 ∷ 230 ∷ 6566 ∷ 6598 ∷ []
 starts = refl
 
 -- each word is the number of its place; but for word 8, which has four bytes of its own, the low one 41

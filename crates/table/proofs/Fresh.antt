@@ -26,7 +26,7 @@ use Rattle.table.specs.Word.{bits, isUsed}
 use Rattle.table.specs.Zeros.{noCall, noCustomer, emptyTable, pastCall, pastCustomer}
 use Rattle.table.specs.Lists.{Terms, customerAt, termsOf, listedAt, roster, openAt, entries, heldAt, customerFour, heldIn, standaloneAt, held}
 use Rattle.table.specs.Share.{isAt, S}
-use Rattle.table.specs.Rules.{badShare, sameAddress, guarantees, acceptable, rosterHolds, overLimit, placeClear, placeValid, callClear, customerFreeClear, customerClear, slotFreeClear, recordFreeClear, slotsWithinTotal, withinLimits, shareWithinTotal, namesAndIds, holds, rulesHold}
+use Rattle.table.specs.Rules.{badShare, sameAddress, guarantees, acceptable, rosterHolds, overLimit, placeClear, placeValid, callClear, customerFreeClear, customerClear, slotFreeClear, recordFreeClear, slotsWithinTotal, withinLimits, shareWithinTotal, namesAndIds, refreshesPast, holds, rulesHold}
 use Rattle.table.specs.Roster.{rosterNumber, formIn, customersIn, totalIn, sharesIn, termsIn, spareIn, recordsIn, badForm, recordsAnswer, rosterAnswer, customerIn, customersFrom, freshTable}
 use Rattle.table.proofs.Slots.{none-used}
 use Rattle.table.specs.Claims.{FreshHolds, EmptyHolds}
@@ -52,6 +52,7 @@ module _ (address epoch form : ℕ) (s : List ℕ) (n : ℕ) where
     address = address;
     epoch = epoch;
     next = 1;
+    time = 0;
     listed = n;
     form = form;
     occupied = replicate 4 0;
@@ -111,6 +112,9 @@ module _ (address epoch form : ℕ) (s : List ℕ) (n : ℕ) where
   valid-ids : holds namesAndIds idle ≡ true
   valid-ids = every-within _ slots (λ i h. rw (all-free i))
 
+  past-refreshes : holds refreshesPast idle ≡ true
+  past-refreshes = every-within _ slots (λ i h. rw (all-free i))
+
   slot-free-clear : (i : ℕ) → i < slots → slotFreeClear idle i ≡ true
   slot-free-clear i h = rw (all-free i, getD-replicate slots i noCall pastCall h) free-clear
 
@@ -125,7 +129,7 @@ module _ (address epoch form : ℕ) (s : List ℕ) (n : ℕ) where
   idle-holds : n ≤ 8 → guarantees (recordsIn s n) ≤ totalFor form → rosterHolds idle ≡ true → rulesHold idle ≡ true
   unfolding rulesHold
   idle-holds few g r =
-      rw (r, slots-within, within-limits, within-total few g, valid-ids, every-within (slotFreeClear idle) slots slot-free-clear, every-within (recordFreeClear idle) 8 record-free-clear, no-entries, none-held)
+      rw (r, slots-within, within-limits, within-total few g, valid-ids, past-refreshes, every-within (slotFreeClear idle) slots slot-free-clear, every-within (recordFreeClear idle) 8 record-free-clear, no-entries, none-held)
 
 -- the empty table lists no records
 pub empty-holds : EmptyHolds

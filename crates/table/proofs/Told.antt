@@ -84,43 +84,43 @@ module _ (w v : List ℕ) where
 
   module _ (lw : (i : ℕ) → getD w i 0 < 4294967296) (lv : (i : ℕ) → getD v i 0 < 4294967296) (e : tableOf w ≡ tableOf v) where
     -- two words that are one of 64 bits
-    occupied-told : (j : ℕ) → j < 8 → Same (5 + j)
+    occupied-told : (j : ℕ) → j < 8 → Same (6 + j)
     occupied-told j h =
         let k = j / 2 in
-        let p : getD w (5 + 2 * k) 0 + getD w (6 + 2 * k) 0 * 4294967296 ≡ getD v (5 + 2 * k) 0 + getD v (6 + 2 * k) 0 * 4294967296 =
-        cell (λ k. getD w (5 + 2 * k) 0 + getD w (6 + 2 * k) 0 * 4294967296) (λ k. getD v (5 + 2 * k) 0 + getD v (6 + 2 * k) 0 * 4294967296) 4 (ap (λ t. t .occupied) e) k (omega arith) in
-        let low : Same (5 + 2 * k) = omega (arith, p, lw (5 + 2 * k), lv (5 + 2 * k)) in
-        let high : Same (6 + 2 * k) = omega (arith, p, lw (5 + 2 * k), lv (5 + 2 * k)) in
-        split {P = λ r. j % 2 ≡ r → r < 2 → Same (5 + j)} 1
-        (λ r a q b. moved (5 + 2 * k) (5 + j) (omega arith) low)
-        (λ r a q b. moved (6 + 2 * k) (5 + j) (omega arith) high)
+        let p : getD w (6 + 2 * k) 0 + getD w (7 + 2 * k) 0 * 4294967296 ≡ getD v (6 + 2 * k) 0 + getD v (7 + 2 * k) 0 * 4294967296 =
+        cell (λ k. getD w (6 + 2 * k) 0 + getD w (7 + 2 * k) 0 * 4294967296) (λ k. getD v (6 + 2 * k) 0 + getD v (7 + 2 * k) 0 * 4294967296) 4 (ap (λ t. t .occupied) e) k (omega arith) in
+        let low : Same (6 + 2 * k) = omega (arith, p, lw (6 + 2 * k), lv (6 + 2 * k)) in
+        let high : Same (7 + 2 * k) = omega (arith, p, lw (6 + 2 * k), lv (6 + 2 * k)) in
+        split {P = λ r. j % 2 ≡ r → r < 2 → Same (6 + j)} 1
+        (λ r a q b. moved (6 + 2 * k) (6 + j) (omega arith) low)
+        (λ r a q b. moved (7 + 2 * k) (6 + j) (omega arith) high)
         (j % 2) refl (omega arith)
 
-    customers-told : (k : ℕ) → 13 ≤ k → k < 197 → Same k
+    customers-told : (k : ℕ) → 14 ≤ k → k < 198 → Same k
     customers-told k g h =
-        let j = (k - 13) / 23 in
+        let j = (k - 14) / 23 in
         let p : customerAtWord w (customerStart j) ≡ customerAtWord v (customerStart j) =
         ap (λ l. getD l 0 (customerAtWord w 0))
         (cells-told (λ j. customerAtWord w (customerStart j) ∷ []) (λ j. customerAtWord v (customerStart j) ∷ []) 1 (λ i. refl) (λ i. refl) 8 (ap (λ t. t .customers) e) j (omega arith)) in
-        moved (customerStart j + (k - 13) % 23) k (omega arith) (customer-told (customerStart j) p ((k - 13) % 23) (omega arith))
+        moved (customerStart j + (k - 14) % 23) k (omega arith) (customer-told (customerStart j) p ((k - 14) % 23) (omega arith))
 
-    calls-told : (k : ℕ) → 197 ≤ k → k < wordCount → Same k
+    calls-told : (k : ℕ) → 198 ≤ k → k < wordCount → Same k
     calls-told k g h =
-        let j = (k - 197) / 32 in
+        let j = (k - 198) / 32 in
         let p : callAtWord w (callStart j) ≡ callAtWord v (callStart j) =
         ap (λ l. getD l 0 (callAtWord w 0))
         (cells-told (λ j. callAtWord w (callStart j) ∷ []) (λ j. callAtWord v (callStart j) ∷ []) 1 (λ i. refl) (λ i. refl) slots (ap (λ t. t .calls) e) j (omega arith)) in
-        moved (callStart j + (k - 197) % 32) k (omega arith) (call-told (callStart j) p ((k - 197) % 32) (omega arith))
+        moved (callStart j + (k - 198) % 32) k (omega arith) (call-told (callStart j) p ((k - 198) % 32) (omega arith))
 
     word-told : (k : ℕ) → k < wordCount → Same k
     word-told k h =
         split {P = λ k. k < wordCount → Same k} 4
-        (λ k l h. four Same (ap (λ t. t .address) e) (ap (λ t. t .epoch) e) (ap (λ t. t .next) e) (ap (λ t. t .listed) e) k l)
-        (λ k g. split {P = λ k. 4 ≤ k → k < wordCount → Same k} 5
-        (λ k l g h. moved 4 k (omega arith) (ap (λ t. t .form) e))
-        (λ k f g. split {P = λ k. 5 ≤ k → k < wordCount → Same k} 13
-        (λ k l f h. moved (5 + (k - 5)) k (omega arith) (occupied-told (k - 5) (omega arith)))
-        (λ k m f. split {P = λ k. 13 ≤ k → k < wordCount → Same k} 197 (λ k l m h. customers-told k m l) (λ k n m h. calls-told k n h) k m) k f) k g) k h
+        (λ k l h. four Same (ap (λ t. t .address) e) (ap (λ t. t .epoch) e) (ap (λ t. t .next) e) (ap (λ t. t .time) e) k l)
+        (λ k g. split {P = λ k. 4 ≤ k → k < wordCount → Same k} 6
+        (λ k l g h. split {P = λ k. 4 ≤ k → k < 6 → Same k} 5 (λ k m g l. moved 4 k (omega arith) (ap (λ t. t .listed) e)) (λ k m g l. moved 5 k (omega arith) (ap (λ t. t .form) e)) k g l)
+        (λ k f g. split {P = λ k. 6 ≤ k → k < wordCount → Same k} 14
+        (λ k l f h. moved (6 + (k - 6)) k (omega arith) (occupied-told (k - 6) (omega arith)))
+        (λ k m f. split {P = λ k. 14 ≤ k → k < wordCount → Same k} 198 (λ k l m h. customers-told k m l) (λ k n m h. calls-told k n h) k m) k f) k g) k h
 
     told : length w ≡ wordCount → length v ≡ wordCount → w ≡ v
     told n m = ext-getD 0 w v (n ∙ sym m) (λ i l. word-told i (omega arith))

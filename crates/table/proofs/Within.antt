@@ -13,7 +13,7 @@ use Rattle.table.specs.Table.{Table}
 use Rattle.table.specs.Total.{slots, totalFor, totalOf}
 use Rattle.table.specs.Word.{bits, isUsed}
 use Rattle.table.specs.Lists.{callAt, entryOf, openAt}
-use Rattle.table.specs.Rules.{holds, rosterAcceptable, slotsWithinTotal, sendersListed, withinLimits, shareWithinTotal, shortIdsOnce, longIdsOnce, requestsOnce, namesAndIds, connectionsOnce, freeHoldsZeros, rulesHold}
+use Rattle.table.specs.Rules.{holds, rosterAcceptable, slotsWithinTotal, sendersListed, withinLimits, shareWithinTotal, shortIdsOnce, longIdsOnce, requestsOnce, namesAndIds, refreshesPast, connectionsOnce, freeHoldsZeros, rulesHold}
 
 pub total-most : (form : ℕ) → totalFor form ≤ slots
 total-most form = by (eqb form 2)
@@ -28,7 +28,8 @@ unfolding rulesHold
 rules-within t h =
     let zeros = both _ (holds freeHoldsZeros t) h in
     let once = both _ (holds connectionsOnce t) (zeros .0) in
-    let names = both _ (holds namesAndIds t) (once .0) in
+    let past = both _ (holds refreshesPast t) (once .0) in
+    let names = both _ (holds namesAndIds t) (past .0) in
     let requests = both _ (holds requestsOnce t) (names .0) in
     let longs = both _ (holds longIdsOnce t) (requests .0) in
     let shorts = both _ (holds shortIdsOnce t) (longs .0) in

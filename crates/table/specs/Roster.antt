@@ -85,7 +85,7 @@ rosterAnswer s =
     (cond (not (eqb (length s) (8 + 6 * customersIn s))) Length
     (recordsAnswer s 0 (customersIn s))))
 
--- ---- the table: that roster as read, no calls or connections, next own identifier 1, all else zeros
+-- ---- the table: that roster as read, no calls or connections, next own identifier 1, all else zeros, the time too
 
 abbrev pub customerIn : List ℕ → ℕ → Customer
 customerIn s k =
@@ -106,6 +106,7 @@ freshTable s = record {
   address = be32At s 1;
   epoch = be24At s 5;
   next = 1;
+  time = 0;
   listed = customersIn s;
   form = formIn s;
   occupied = replicate 4 0;

@@ -120,9 +120,9 @@ abbrev pub fourValid : Four → Bool
 fourValid f = everyBelow (λ j. placeValid (placeAt f j)) 4
 
 -- 02, A6: a call that the node made has its request's epoch, of 24 bits, and identifier; any other has zeros there, and a
--- mark other than 0 and 1 is neither. The last refresh is for request A7.
+-- mark other than 0 and 1 is neither.
 abbrev pub requestTidy : Call → Bool
-requestTidy c = eqb (c .refreshed) 0 && cond (isMade c) (ltb (c .epoch) 0x1000000) (eqb (c .made) 0 && eqb (c .epoch) 0 && eqb (c .identifier) 0)
+requestTidy c = cond (isMade c) (ltb (c .epoch) 0x1000000) (eqb (c .made) 0 && eqb (c .epoch) 0 && eqb (c .identifier) 0)
 
 -- a call's places, those taken excepted; the bytes past its name; the request of a call that the node did not make
 unfoldable pub callFreeClear : Call → Bool
@@ -155,7 +155,7 @@ recordFreeClear t k = cond (ltb k (t .listed)) (customerFreeClear (customerAt t 
 -- ---- the rules by name
 
 pub data Rule : Type 0 where
-  rosterAcceptable slotsWithinTotal sendersListed withinLimits shareWithinTotal shortIdsOnce longIdsOnce requestsOnce namesAndIds connectionsOnce freeHoldsZeros : Rule
+  rosterAcceptable slotsWithinTotal sendersListed withinLimits shareWithinTotal shortIdsOnce longIdsOnce requestsOnce namesAndIds refreshesPast connectionsOnce freeHoldsZeros : Rule
 
 abbrev pub holds : Rule → Table → Bool
 holds rosterAcceptable t = rosterHolds t
@@ -169,6 +169,8 @@ holds longIdsOnce t = noTwo (λ e f. sameLong (e .ids) (f .ids)) (entries t)
 -- 02, A6: no two calls that the node made for a pair share both numbers
 holds requestsOnce t = noTwo sameRequest (entries t)
 holds namesAndIds t = everyBelow (λ i. not (isUsed (t .occupied) i) || validIds (callAt t i)) slots
+-- 02, A7: no refresh lies after the node's time; a free slot has none (`callClear`)
+holds refreshesPast t = everyBelow (λ i. not (isUsed (t .occupied) i) || leb (callAt t i .refreshed) (t .time)) slots
 holds connectionsOnce t = noTwo sameConnection (held t)
 holds freeHoldsZeros t = everyBelow (slotFreeClear t) slots && everyBelow (recordFreeClear t) 8
 
@@ -184,5 +186,6 @@ rulesHold t =
     && holds longIdsOnce t
     && holds requestsOnce t
     && holds namesAndIds t
+    && holds refreshesPast t
     && holds connectionsOnce t
     && holds freeHoldsZeros t

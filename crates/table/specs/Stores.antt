@@ -1,4 +1,5 @@
--- The table with one thing stored: a call, a customer, a connection, the occupancy's words, the next own identifier.
+-- The table with one thing stored: a call, a customer, a connection, the occupancy's words, the next own identifier, the
+-- node's time; and a call with another refresh.
 use Prim.Native.Nat.{ℕ}
 use mathlib.Core.List.{List}
 use lib.ListN.{set}
@@ -10,6 +11,7 @@ withSlot t words i c = record {
   address = t .address;
   epoch = t .epoch;
   next = t .next;
+  time = t .time;
   listed = t .listed;
   form = t .form;
   occupied = words;
@@ -22,6 +24,7 @@ withOccupied t words = record {
   address = t .address;
   epoch = t .epoch;
   next = t .next;
+  time = t .time;
   listed = t .listed;
   form = t .form;
   occupied = words;
@@ -34,6 +37,20 @@ withNext t next = record {
   address = t .address;
   epoch = t .epoch;
   next = next;
+  time = t .time;
+  listed = t .listed;
+  form = t .form;
+  occupied = t .occupied;
+  customers = t .customers;
+  calls = t .calls;
+}
+
+abbrev pub withTime : Table → ℕ → Table
+withTime t time = record {
+  address = t .address;
+  epoch = t .epoch;
+  next = t .next;
+  time = time;
   listed = t .listed;
   form = t .form;
   occupied = t .occupied;
@@ -46,6 +63,7 @@ withCustomer t k c = record {
   address = t .address;
   epoch = t .epoch;
   next = t .next;
+  time = t .time;
   listed = t .listed;
   form = t .form;
   occupied = t .occupied;
@@ -68,6 +86,21 @@ withPlace c j p = record {
   places = set (c .places) j p;
 }
 
+-- another last refresh
+abbrev pub withRefresh : Call → ℕ → Call
+withRefresh c time = record {
+  endpoint = c .endpoint;
+  sender = c .sender;
+  refreshed = time;
+  epoch = c .epoch;
+  identifier = c .identifier;
+  id = c .id;
+  made = c .made;
+  size = c .size;
+  name = c .name;
+  places = c .places;
+}
+
 -- the same of a customer's four, where each place has its end point
 abbrev pub withStandalonePlace : Customer → ℕ → ℕ → Place → Customer
 withStandalonePlace c j endpoint p = record {
@@ -84,6 +117,7 @@ withRoster t address epoch listed form = record {
   address = address;
   epoch = epoch;
   next = t .next;
+  time = t .time;
   listed = listed;
   form = form;
   occupied = t .occupied;

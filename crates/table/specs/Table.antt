@@ -11,8 +11,8 @@ pub record Place : Type 0 where
   pub lsp : ℕ
 
 -- a call, with its long Call ID in the first `size` of the name's 32 bytes; the mark `made` is 1 where the node made its
--- IDs, and then epoch and identifier are its request's (02, A6). Its last refresh is for request A7: a table rule holds
--- it at zero until then.
+-- IDs, and then epoch and identifier are its request's (02, A6). `refreshed` is the node's time at its last 20 or 21 (02,
+-- A7).
 pub record Call : Type 0 where
   pub endpoint : ℕ
   pub sender : ℕ
@@ -34,11 +34,13 @@ pub record Customer : Type 0 where
   pub places : List Place
 
 -- the roster as read (own address, own epoch, the first `listed` customers, the roster's form, 0 where it lists none), the
--- next own identifier, and the calls: bits in four words of 64 say which slots are used (Word.antt)
+-- next own identifier, the node's time (02, A7), and the calls: bits in four words of 64 say which slots are used
+-- (Word.antt)
 pub record Table : Type 0 where
   pub address : ℕ
   pub epoch : ℕ
   pub next : ℕ
+  pub time : ℕ
   pub listed : ℕ
   pub form : ℕ
   pub occupied : List ℕ

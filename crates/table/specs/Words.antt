@@ -1,9 +1,9 @@
 -- The table that an array of 32-bit words is. Words and table are one to one (Claims.antt, WordsTold), so that a
 -- contract on the table settles every word. The code's constants are those of table/src/layout.rt.
 --
---   0 address   1 epoch   2 next   3 listed   4 form   5 to 12 occupied, 32 slots each
---   13 + 23 k   customer k: address, guarantee, limit, 4 end points, 4 places
---   197 + 32 i  call i: end point, sender, last refresh, epoch, identifier, short ID, made mark, name length, 8 words of name, 4 places
+--   0 address   1 epoch   2 next   3 time   4 listed   5 form   6 to 13 occupied, 32 slots each
+--   14 + 23 k   customer k: address, guarantee, limit, 4 end points, 4 places
+--   198 + 32 i  call i: end point, sender, last refresh, epoch, identifier, short ID, made mark, name length, 8 words of name, 4 places
 --   a place: taken, tunnel, extended, LSP
 use Prim.Native.Nat.{ℕ, _+_, _*_, _/_, _%_}
 use mathlib.Core.List.{List, [], _∷_}
@@ -15,14 +15,14 @@ use Rattle.table.specs.Total.{slots}
 -- ---- where things stand
 
 abbrev pub customerStart : ℕ → ℕ
-customerStart k = 13 + 23 * k
+customerStart k = 14 + 23 * k
 
 abbrev pub callStart : ℕ → ℕ
-callStart i = 197 + 32 * i
+callStart i = 198 + 32 * i
 
 -- how many words there are
 abbrev pub wordCount : ℕ
-wordCount = 6597
+wordCount = 6598
 
 -- ---- what stands there
 
@@ -73,15 +73,16 @@ slotsOf w = below (λ i. callAtWord w (callStart i) ∷ []) slots
 
 -- a word of 64 slots is two of the array's, the lower slots' first
 abbrev pub occupiedOf : List ℕ → List ℕ
-occupiedOf w = below (λ k. (getD w (5 + 2 * k) 0 + getD w (6 + 2 * k) 0 * 4294967296) ∷ []) 4
+occupiedOf w = below (λ k. (getD w (6 + 2 * k) 0 + getD w (7 + 2 * k) 0 * 4294967296) ∷ []) 4
 
 abbrev pub tableOf : List ℕ → Table
 tableOf w = record {
   address = getD w 0 0;
   epoch = getD w 1 0;
   next = getD w 2 0;
-  listed = getD w 3 0;
-  form = getD w 4 0;
+  time = getD w 3 0;
+  listed = getD w 4 0;
+  form = getD w 5 0;
   occupied = occupiedOf w;
   customers = customersOf w;
   calls = slotsOf w;

@@ -25,12 +25,13 @@ noCall = record {
 unfoldable pub noCustomer : Customer
 noCustomer = record { address = 0; guarantee = 0; limit = 0; endpoints = replicate 4 0; places = replicate 4 noPlace }
 
--- no customers, all zeros, next own identifier 1
+-- no customers, all zeros, the time too (02, A7: at first 0), next own identifier 1
 unfoldable pub emptyTable : Table
 emptyTable = record {
   address = 0;
   epoch = 0;
   next = 1;
+  time = 0;
   listed = 0;
   form = 0;
   occupied = replicate 4 0;

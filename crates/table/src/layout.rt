@@ -17,14 +17,16 @@ pub const EPOCH: usize = 1;
 
 pub const NEXT: usize = 2;
 
-pub const LISTED: usize = 3;
+pub const TIME: usize = 3;
 
-pub const FORM: usize = 4;
+pub const LISTED: usize = 4;
 
-pub const OCCUPIED: usize = 5;
+pub const FORM: usize = 5;
+
+pub const OCCUPIED: usize = 6;
 
 // A customer: its terms, then an end point for each of its places, then the places.
-pub const FIRST_CUSTOMER: usize = 13;
+pub const FIRST_CUSTOMER: usize = 14;
 
 pub const CUSTOMER_WORDS: usize = 23;
 
@@ -37,7 +39,7 @@ pub const ENDPOINTS: usize = 3;
 pub const CUSTOMER_FOUR: usize = 7;
 
 // A call: its numbers, the 8 words of its name, its places.
-pub const FIRST_CALL: usize = 197;
+pub const FIRST_CALL: usize = 198;
 
 pub const CALL_WORDS: usize = 32;
 
@@ -71,6 +73,6 @@ pub const EXTENDED: usize = 2;
 pub const LSP: usize = 3;
 
 // All of it.
-pub const WORDS: usize = 6597;
+pub const WORDS: usize = 6598;
 
 pub type Words = [u32; WORDS];

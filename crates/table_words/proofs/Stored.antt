@@ -1,17 +1,21 @@
 -- Words stored: the table with another head, with another call in a slot, with another customer, with another connection in
--- a four.
+-- a four, with another refresh of a call.
 -- Assumes nothing.
 use Prim.Native.Nat.{ℕ, _+_, _*_, _≤_, _<_}
 use native.Mathlib.Omega.{arith}
-use mathlib.Core.Path.{_≡_, sym, ap, ap₂, _∙_}
+use mathlib.Core.Path.{_≡_, refl, sym, ap, ap₂, _∙_}
 use mathlib.Core.List.{List, [], _∷_}
+use mathlib.Core.Bool.{Bool, true, false, cond}
+use lib.Dec.{eqb}
 use lib.ListN.{length, getD, set, length-set}
 use lib.Seq.{getD-set-same, getD-set-other}
+use borrow.Author.Tests.{eqb-true, eqb-false}
 use Rattle.lists.proofs.Below.{below-ext, set-each}
+use Rattle.table.specs.Table.{Table}
 use Rattle.table.specs.Total.{slots}
 use Rattle.table.specs.Lists.{callAt, customerAt}
-use Rattle.table.specs.Stores.{withSlot, withCustomer, withPlace, withStandalonePlace, withTerms, withNext, withOccupied, withRoster}
-use Rattle.table.specs.Words.{placeAtWord, placesAtWord, callAtWord, customerAtWord, customersOf, slotsOf, occupiedOf, customerStart, callStart, tableOf}
+use Rattle.table.specs.Stores.{withSlot, withCustomer, withPlace, withStandalonePlace, withTerms, withRefresh, withOccupied, withRoster}
+use Rattle.table.specs.Words.{placeAtWord, placesAtWord, callAtWord, customerAtWord, customersOf, slotsOf, occupiedOf, customerStart, callStart, tableOf, wordCount}
 use Rattle.table.proofs.Cells.{call-at, customer-at, name-same, place-same, places-same, occupied-same, customers-same, calls-same, calls-set, customers-set}
 
 -- words that are as they were but for the n from b on
@@ -20,20 +24,21 @@ Elsewhere w v b n = (j : ℕ) → (b ≤ j → j < b + n → ⊥) → getD v j 0
 
 module _ (w v : List ℕ) where
   -- words that differ in the head only
-  pub head-changed : Elsewhere w v 0 13 → tableOf v ≡ record {
+  pub head-changed : Elsewhere w v 0 14 → tableOf v ≡ record {
     address = getD v 0 0;
     epoch = getD v 1 0;
     next = getD v 2 0;
-    listed = getD v 3 0;
-    form = getD v 4 0;
+    time = getD v 3 0;
+    listed = getD v 4 0;
+    form = getD v 5 0;
     occupied = occupiedOf v;
     customers = customersOf w;
     calls = slotsOf w;
   }
   head-changed other = rw (customers-same w v (λ j p q. other j (λ r s. omega arith)), calls-same w v (λ j p. other j (λ r s. omega arith)))
 
-  module _ (b n : ℕ) (past : 13 ≤ b) (other : Elsewhere w v b n) where
-    head : (j : ℕ) → j < 13 → getD v j 0 ≡ getD w j 0
+  module _ (b n : ℕ) (past : 14 ≤ b) (other : Elsewhere w v b n) where
+    head : (j : ℕ) → j < 14 → getD v j 0 ≡ getD w j 0
     head j l = other j (λ r s. omega arith)
 
   -- words that differ in one slot only
@@ -47,6 +52,7 @@ module _ (w v : List ℕ) where
         h 2 (omega arith),
         h 3 (omega arith),
         h 4 (omega arith),
+        h 5 (omega arith),
         occupied-same w v (λ j p q. h j q),
         customers-same w v (λ j p q. other j (λ r s. omega arith)),
         calls-set w v i l other,
@@ -63,6 +69,7 @@ module _ (w v : List ℕ) where
         h 2 (omega arith),
         h 3 (omega arith),
         h 4 (omega arith),
+        h 5 (omega arith),
         occupied-same w v (λ j p q. h j q),
         customers-set w v k l other,
         calls-same w v (λ j p. other j (λ r s. omega arith)),
@@ -112,7 +119,7 @@ module _ (w : List ℕ) (b x y z u : ℕ) (fits : b + 4 ≤ length w) where
       rw (p, q, r, s)
 
 -- a connection stored under a call
-module _ (w : List ℕ) (i j x y z u : ℕ) (long : length w ≡ 6597) (l : i < slots) (m : j < 4) where
+module _ (w : List ℕ) (i j x y z u : ℕ) (long : length w ≡ wordCount) (l : i < slots) (m : j < 4) where
   pub call-place-stored : tableOf (set4 w (callStart i + 16 + 4 * j) x y z u)
       ≡ withSlot (tableOf w) (occupiedOf w) i (withPlace (callAt (tableOf w) i) j (record { taken = x; tunnel = y; extended = z; lsp = u }))
   call-place-stored =
@@ -139,7 +146,7 @@ module _ (w : List ℕ) (i j x y z u : ℕ) (long : length w ≡ 6597) (l : i < 
       rw (call-at w i l) (slot-changed w v i l (λ k n. other k (λ p q. n (omega arith) (omega arith))) ∙ ap (λ c. withSlot (tableOf w) (occupiedOf w) i c) here)
 
 -- a connection of Call ID 0 stored with a customer, its end point first
-module _ (w : List ℕ) (k j e x y z u : ℕ) (long : length w ≡ 6597) (l : k < 8) (m : j < 4) where
+module _ (w : List ℕ) (k j e x y z u : ℕ) (long : length w ≡ wordCount) (l : k < 8) (m : j < 4) where
   pub customer-place-stored : tableOf (set4 (set w (customerStart k + 3 + j) e) (customerStart k + 7 + 4 * j) x y z u)
       ≡ withCustomer (tableOf w) k (withStandalonePlace (customerAt (tableOf w) k) j e (record { taken = x; tunnel = y; extended = z; lsp = u }))
   customer-place-stored =
@@ -164,7 +171,7 @@ module _ (w : List ℕ) (k j e x y z u : ℕ) (long : length w ≡ 6597) (l : k 
       (customer-changed w v k l (λ i o. other i (λ p. o (omega arith) (omega arith)) (λ p q. o (omega arith) (omega arith))) ∙ ap (λ c. withCustomer (tableOf w) k c) here)
 
 -- a customer's terms stored
-module _ (w : List ℕ) (k x y z : ℕ) (long : length w ≡ 6597) (l : k < 8) where
+module _ (w : List ℕ) (k x y z : ℕ) (long : length w ≡ wordCount) (l : k < 8) where
   pub terms-stored : tableOf (set (set (set w (customerStart k) x) (customerStart k + 1) y) (customerStart k + 2) z)
       ≡ withCustomer (tableOf w) k (withTerms (customerAt (tableOf w) k) x y z)
   terms-stored =
@@ -188,37 +195,88 @@ module _ (w : List ℕ) (k x y z : ℕ) (long : length w ≡ 6597) (l : k < 8) w
       rw (p, q, r, ends, places-same v w (b + 7) (b + 7) (λ i o. other (b + 7 + i) (λ p q. omega arith))) in
       rw (customer-at w k l) (customer-changed w v k l (λ i o. other i (λ p q. o (omega arith) (omega arith))) ∙ ap (λ c. withCustomer (tableOf w) k c) here)
 
+-- the last refresh of a call stored
+module _ (w : List ℕ) (i n : ℕ) (long : length w ≡ wordCount) (l : i < slots) where
+  pub refresh-stored : tableOf (set w (callStart i + 2) n) ≡ withSlot (tableOf w) (occupiedOf w) i (withRefresh (callAt (tableOf w) i) n)
+  refresh-stored =
+      let b = callStart i in
+      let v = set w (b + 2) n in
+      let other : (j : ℕ) → (j ≡ b + 2 → ⊥) → getD v j 0 ≡ getD w j 0 = λ j p. getD-set-other w (b + 2) j n 0 p in
+      let f : (k : ℕ) → (k ≡ 2 → ⊥) → getD v (b + k) 0 ≡ getD w (b + k) 0 = λ k p. other (b + k) (λ q. p (omega arith)) in
+      let here : callAtWord v b ≡ withRefresh (callAtWord w b) n =
+      rw (
+        other b (λ p. omega arith),
+        f 1 (λ p. omega arith),
+        getD-set-same w (b + 2) n 0 (omega arith),
+        f 3 (λ p. omega arith),
+        f 4 (λ p. omega arith),
+        f 5 (λ p. omega arith),
+        f 6 (λ p. omega arith),
+        f 7 (λ p. omega arith),
+        name-same v w (b + 8) (b + 8) (λ k m. other (b + 8 + k) (λ p. omega arith)),
+        places-same v w (b + 16) (b + 16) (λ k m. other (b + 16 + k) (λ p. omega arith)),
+      ) in
+      rw (call-at w i l) (slot-changed w v i l (λ k o. other k (λ p. o (omega arith) (omega arith))) ∙ ap (λ c. withSlot (tableOf w) (occupiedOf w) i c) here)
+
 -- ---- the head
 
-pub next-stored : (w : List ℕ) (n : ℕ) → length w ≡ 6597 → tableOf (set w 2 n) ≡ withNext (tableOf w) n
-next-stored w n long =
-    let other : (j : ℕ) → (j ≡ 2 → ⊥) → getD (set w 2 n) j 0 ≡ getD w j 0 = λ j p. getD-set-other w 2 j n 0 p in
-    head-changed w (set w 2 n) (λ j p. other j (λ q. p (omega arith) (omega arith)))
-    ∙ rw (
-      other 0 (λ q. omega arith),
-      other 1 (λ q. omega arith),
-      getD-set-same w 2 n 0 (omega arith),
-      other 3 (λ q. omega arith),
-      other 4 (λ q. omega arith),
-      occupied-same w (set w 2 n) (λ j p q. other j (λ e. omega arith)),
-    )
+-- word k, of those in front of the marks, is n
+abbrev pub withHead : Table → ℕ → ℕ → Table
+withHead t k n = record {
+  address = cond (eqb 0 k) n (t .address);
+  epoch = cond (eqb 1 k) n (t .epoch);
+  next = cond (eqb 2 k) n (t .next);
+  time = cond (eqb 3 k) n (t .time);
+  listed = cond (eqb 4 k) n (t .listed);
+  form = cond (eqb 5 k) n (t .form);
+  occupied = t .occupied;
+  customers = t .customers;
+  calls = t .calls;
+}
+
+word-stored : (w : List ℕ) (k n j : ℕ) → k < length w → getD (set w k n) j 0 ≡ cond (eqb j k) n (getD w j 0)
+word-stored w k n j l = go (eqb j k) refl
+  where
+    go : (b : Bool) → eqb j k ≡ b → getD (set w k n) j 0 ≡ cond b n (getD w j 0)
+    go true e = rw (eqb-true j k e) (getD-set-same w k n 0 l)
+    go false e = getD-set-other w k j n 0 (eqb-false j k e)
+
+-- with k a number, as 2 for the next own identifier, `withHead` is `withNext` and the like
+pub head-stored : (w : List ℕ) (k n : ℕ) → length w ≡ wordCount → k < 6 → tableOf (set w k n) ≡ withHead (tableOf w) k n
+head-stored w k n long l =
+    let v = set w k n in
+    let other : (j : ℕ) → (j ≡ k → ⊥) → getD v j 0 ≡ getD w j 0 = λ j p. getD-set-other w k j n 0 p in
+    let is : (j : ℕ) → getD v j 0 ≡ cond (eqb j k) n (getD w j 0) = λ j. word-stored w k n j (omega arith) in
+    head-changed w v (λ j p. other j (λ q. p (omega arith) (omega arith))) ∙ rw (is 0, is 1, is 2, is 3, is 4, is 5, occupied-same w v (λ j p q. other j (λ e. omega arith)))
+
+pub roster-stored : (w : List ℕ) (x y z u : ℕ) → length w ≡ wordCount → tableOf (set (set (set (set w 0 x) 1 y) 4 z) 5 u) ≡ withRoster (tableOf w) x y z u
+roster-stored w x y z u long =
+    let a = set w 0 x in
+    let b = set a 1 y in
+    let c = set b 4 z in
+    let n = length-set w 0 x ∙ long in
+    let m = length-set a 1 y ∙ n in
+    let o = length-set b 4 z ∙ m in
+    head-stored c 5 u o (omega arith)
+    ∙ ap (λ t. withHead t 5 u)
+    (head-stored b 4 z m (omega arith) ∙ ap (λ t. withHead t 4 z) (head-stored a 1 y n (omega arith) ∙ ap (λ t. withHead t 1 y) (head-stored w 0 x long (omega arith))))
 
 -- the marks of 64 slots in their two words
-pub used-stored : (w : List ℕ) (k lo hi n : ℕ) → length w ≡ 6597 → k < 4 → lo + hi * 4294967296 ≡ n
-    → tableOf (set (set w (5 + 2 * k) lo) (5 + 2 * k + 1) hi) ≡ withOccupied (tableOf w) (set (occupiedOf w) k n)
+pub used-stored : (w : List ℕ) (k lo hi n : ℕ) → length w ≡ wordCount → k < 4 → lo + hi * 4294967296 ≡ n
+    → tableOf (set (set w (6 + 2 * k) lo) (6 + 2 * k + 1) hi) ≡ withOccupied (tableOf w) (set (occupiedOf w) k n)
 used-stored w k lo hi n long l e =
-    let a = set w (5 + 2 * k) lo in
-    let v = set a (5 + 2 * k + 1) hi in
-    let other : (j : ℕ) → (j ≡ 5 + 2 * k → ⊥) → (j ≡ 5 + 2 * k + 1 → ⊥) → getD v j 0 ≡ getD w j 0 =
-    λ j p q. getD-set-other a (5 + 2 * k + 1) j hi 0 q ∙ getD-set-other w (5 + 2 * k) j lo 0 p in
-    let low : getD v (5 + 2 * k) 0 ≡ lo = getD-set-other a (5 + 2 * k + 1) (5 + 2 * k) hi 0 (λ q. omega arith) ∙ getD-set-same w (5 + 2 * k) lo 0 (omega arith) in
-    let high : getD v (6 + 2 * k) 0 ≡ hi =
-    ap (λ (j : ℕ). getD v j 0) (omega arith) ∙ getD-set-same a (5 + 2 * k + 1) hi 0 (omega (arith, length-set w (5 + 2 * k) lo)) in
-    let f : List ℕ → ℕ → ℕ = λ w k. getD w (5 + 2 * k) 0 + getD w (6 + 2 * k) 0 * 4294967296 in
+    let a = set w (6 + 2 * k) lo in
+    let v = set a (6 + 2 * k + 1) hi in
+    let other : (j : ℕ) → (j ≡ 6 + 2 * k → ⊥) → (j ≡ 6 + 2 * k + 1 → ⊥) → getD v j 0 ≡ getD w j 0 =
+    λ j p q. getD-set-other a (6 + 2 * k + 1) j hi 0 q ∙ getD-set-other w (6 + 2 * k) j lo 0 p in
+    let low : getD v (6 + 2 * k) 0 ≡ lo = getD-set-other a (6 + 2 * k + 1) (6 + 2 * k) hi 0 (λ q. omega arith) ∙ getD-set-same w (6 + 2 * k) lo 0 (omega arith) in
+    let high : getD v (7 + 2 * k) 0 ≡ hi =
+    ap (λ (j : ℕ). getD v j 0) (omega arith) ∙ getD-set-same a (6 + 2 * k + 1) hi 0 (omega (arith, length-set w (6 + 2 * k) lo)) in
+    let f : List ℕ → ℕ → ℕ = λ w k. getD w (6 + 2 * k) 0 + getD w (7 + 2 * k) 0 * 4294967296 in
     let words : occupiedOf v ≡ set (occupiedOf w) k n =
     sym (ap (λ (x : ℕ). set (occupiedOf w) k x) (sym (ap₂ (λ (x y : ℕ). x + y * 4294967296) low high ∙ e))
     ∙ set-each (f w) (f v) 4 k l
-    (λ i o. ap₂ (λ (x y : ℕ). x + y * 4294967296) (sym (other (5 + 2 * i) (λ q. o (omega arith)) (λ q. omega arith))) (sym (other (6 + 2 * i) (λ q. omega arith) (λ q. o (omega arith)))))) in
+    (λ i o. ap₂ (λ (x y : ℕ). x + y * 4294967296) (sym (other (6 + 2 * i) (λ q. o (omega arith)) (λ q. omega arith))) (sym (other (7 + 2 * i) (λ q. omega arith) (λ q. o (omega arith)))))) in
     head-changed w v (λ j p. other j (λ q. p (omega arith) (omega arith)) (λ q. p (omega arith) (omega arith)))
     ∙ rw (
       other 0 (λ q. omega arith) (λ q. omega arith),
@@ -226,27 +284,6 @@ used-stored w k lo hi n long l e =
       other 2 (λ q. omega arith) (λ q. omega arith),
       other 3 (λ q. omega arith) (λ q. omega arith),
       other 4 (λ q. omega arith) (λ q. omega arith),
+      other 5 (λ q. omega arith) (λ q. omega arith),
       words,
-    )
-
-pub roster-stored : (w : List ℕ) (x y z u : ℕ) → length w ≡ 6597 → tableOf (set (set (set (set w 0 x) 1 y) 3 z) 4 u) ≡ withRoster (tableOf w) x y z u
-roster-stored w x y z u long =
-    let a = set w 0 x in
-    let b = set a 1 y in
-    let c = set b 3 z in
-    let v = set c 4 u in
-    let n = length-set w 0 x in
-    let m = length-set a 1 y in
-    let o = length-set b 3 z in
-    let other : (j : ℕ) → (j ≡ 0 → ⊥) → (j ≡ 1 → ⊥) → (j ≡ 3 → ⊥) → (j ≡ 4 → ⊥) → getD v j 0 ≡ getD w j 0 =
-    λ j p q r s. getD-set-other c 4 j u 0 s ∙ getD-set-other b 3 j z 0 r ∙ getD-set-other a 1 j y 0 q ∙ getD-set-other w 0 j x 0 p in
-    head-changed w v
-    (λ j p. other j (λ q. p (omega arith) (omega arith)) (λ q. p (omega arith) (omega arith)) (λ q. p (omega arith) (omega arith)) (λ q. p (omega arith) (omega arith)))
-    ∙ rw (
-      getD-set-other c 4 0 u 0 (λ q. omega arith) ∙ getD-set-other b 3 0 z 0 (λ q. omega arith) ∙ getD-set-other a 1 0 y 0 (λ q. omega arith) ∙ getD-set-same w 0 x 0 (omega arith),
-      getD-set-other c 4 1 u 0 (λ q. omega arith) ∙ getD-set-other b 3 1 z 0 (λ q. omega arith) ∙ getD-set-same a 1 y 0 (omega arith),
-      other 2 (λ q. omega arith) (λ q. omega arith) (λ q. omega arith) (λ q. omega arith),
-      getD-set-other c 4 3 u 0 (λ q. omega arith) ∙ getD-set-same b 3 z 0 (omega arith),
-      getD-set-same c 4 u 0 (omega arith),
-      occupied-same w v (λ j p q. other j (λ e. omega arith) (λ e. omega arith) (λ e. omega arith) (λ e. omega arith)),
     )

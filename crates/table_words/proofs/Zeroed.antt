@@ -158,9 +158,9 @@ table-zeroed w lw h =
     let v = set w 2 1 in
     let next : getD v 2 0 ≡ 1 = getD-set-same w 2 1 0 (omega arith) in
     let other : (k : ℕ) → (k ≡ 2 → ⊥) → k < wordCount → getD v k 0 ≡ 0 = λ k n l. getD-set-other w 2 k 1 0 n ∙ h k l in
-    let one : (k : ℕ) → k < 13 → (k ≡ 2 → ⊥) → getD v k 0 ≡ 0 = λ k l n. other k n (omega arith) in
+    let one : (k : ℕ) → k < 14 → (k ≡ 2 → ⊥) → getD v k 0 ≡ 0 = λ k l n. other k n (omega arith) in
     let os : occupiedOf v ≡ replicate 4 0 =
-    below-ext _ _ 4 (λ k l. ap₂ (λ (x y : ℕ). (x + y * 4294967296) ∷ []) (one (5 + 2 * k) (omega arith) (λ e. omega arith)) (one (6 + 2 * k) (omega arith) (λ e. omega arith))) ∙ endpoints-none in
+    below-ext _ _ 4 (λ k l. ap₂ (λ (x y : ℕ). (x + y * 4294967296) ∷ []) (one (6 + 2 * k) (omega arith) (λ e. omega arith)) (one (7 + 2 * k) (omega arith) (λ e. omega arith))) ∙ endpoints-none in
     let cs : customersOf v ≡ replicate 8 noCustomer =
     below-ext _ _ 8 (λ k l. ap (λ x. x ∷ []) (customer-zeros v (customerStart k) (λ j m. other (customerStart k + j) (λ e. omega arith) (omega arith)))) ∙ rows-eight noCustomer in
     let ks : slotsOf v ≡ replicate slots noCall =
@@ -171,6 +171,7 @@ table-zeroed w lw h =
       next,
       one 3 (omega arith) (λ e. omega arith),
       one 4 (omega arith) (λ e. omega arith),
+      one 5 (omega arith) (λ e. omega arith),
       os,
       cs,
       ks,

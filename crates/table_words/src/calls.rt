@@ -5,7 +5,7 @@ ghost use Rattle.lists.specs.Below.{everyBelow};
 ghost use Rattle.table.specs.Total.{slots};
 ghost use Rattle.table.specs.Lists.{callAt};
 ghost use Rattle.table.specs.Rules.{sameBytes, callClear};
-ghost use Rattle.table.specs.Stores.{withSlot};
+ghost use Rattle.table.specs.Stores.{withSlot, withRefresh};
 ghost use Rattle.table.specs.Words.{nameAtWord, callAtWord, tableOf};
 ghost use Rattle.table_words.specs.Heads.{headOf, callOf};
 use crate::words::sized;
@@ -158,4 +158,14 @@ pub fn put_slot(t: &mut Words, i: usize, x: &[u32; 32])
         t[b + k] = x[k];
         k += 1;
     }
+}
+
+// A slot's last refresh stored.
+pub fn put_refreshed(t: &mut Words, i: usize, time: u32)
+    requires { ⌜ i < slots ⌝ }
+    ensures { λ _. ⌜ tableOf (now (t .exit)) ≡ withSlot (tableOf (now (t .entry))) (tableOf (now (t .entry)) .occupied) i (withRefresh (callAt (tableOf (now (t .entry))) i) time) ⌝ }
+{
+    sized(t);
+    let b = FIRST_CALL + CALL_WORDS * i;
+    t[b + REFRESHED] = time;
 }

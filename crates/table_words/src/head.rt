@@ -1,9 +1,9 @@
-// The table's head: who the node is, how many customers it lists, its roster's form, its next identifier, and the words of
-// the slots that are used.
+// The table's head: who the node is, how many customers it lists, its roster's form, its next identifier, its time, and the
+// words of the slots that are used.
 ghost use mathlib.Core.Path.{_≡_};
 ghost use Prim.Native.Nat.{_<_};
 ghost use lib.ListN.{getD, set};
-ghost use Rattle.table.specs.Stores.{withOccupied, withNext, withRoster};
+ghost use Rattle.table.specs.Stores.{withOccupied, withNext, withTime, withRoster};
 ghost use Rattle.table.specs.Words.{tableOf};
 use crate::words::sized;
 use crate::words::to_index;
@@ -15,6 +15,7 @@ use table::layout::FORM;
 use table::layout::LISTED;
 use table::layout::NEXT;
 use table::layout::OCCUPIED;
+use table::layout::TIME;
 use table::layout::Words;
 
 pub fn address(t: &Words) -> u32
@@ -34,6 +35,13 @@ pub fn next(t: &Words) -> u32
     ensures { λ r. ⌜ r ≡ tableOf (now (t .entry)) .next ⌝ }
 {
     t[NEXT]
+}
+
+// The node's time.
+pub fn time(t: &Words) -> u32
+    ensures { λ r. ⌜ r ≡ tableOf (now (t .entry)) .time ⌝ }
+{
+    t[TIME]
 }
 
 // How many customers are listed: any number, until the rules are known to hold.
@@ -76,6 +84,13 @@ pub fn set_next(t: &mut Words, next: u32)
 {
     sized(t);
     t[NEXT] = next;
+}
+
+pub fn set_time(t: &mut Words, time: u32)
+    ensures { λ _. ⌜ tableOf (now (t .exit)) ≡ withTime (tableOf (now (t .entry))) time ⌝ }
+{
+    sized(t);
+    t[TIME] = time;
 }
 
 // What a roster says of the node, how many customers it lists, and its form.

@@ -7,7 +7,7 @@ use table::layout::NEXT;
 use table::layout::WORDS;
 use table::layout::Words;
 
-// No customers, all zeros, next own identifier 1.
+// No customers, all zeros, the time too, next own identifier 1.
 pub fn clear_table(t: &mut Words)
     ensures { λ _. ⌜ tableOf (now (t .exit)) ≡ emptyTable ⌝ }
 {

@@ -2,6 +2,8 @@
 // prints the roster's answer, and for each message its number, the answer and the reply's length. A cut frame prints
 // `cut` and ends it.
 use answers::answer::number;
+use expiry::CLOSING_WORDS;
+use expiry::Closings;
 use libc::STDIN_FILENO;
 use libc::STDOUT_FILENO;
 use node::handle::handle;
@@ -46,13 +48,14 @@ fn print_number(label: &[u8], n: u64) {
     io::print_decimal(STDOUT_FILENO, n);
 }
 
-// The message in the first `size` bytes of the space is the n-th.
+// The message in the first `size` bytes of the space is the n-th. No time passes here (02: the tap hands in only zeros).
 fn answer_message(t: &mut Words, n: u64, space: &[u8], size: usize) {
     if space.len() < size {
         return;
     }
     let mut reply = [0u8; 256];
-    let r = handle(t, &space[..size], &mut reply);
+    let mut closings: Closings = [0; CLOSING_WORDS];
+    let r = handle(t, &space[..size], &mut reply, 0, 0, &mut closings);
     let answer = r.answer;
     io::print_decimal(STDOUT_FILENO, n);
     print_number(b" ", number(answer) as u64);

@@ -7,11 +7,11 @@ use Rattle.messages.specs.declared.message.CallRequest.{CallRequest}
 use Rattle.table.specs.Table.{Call}
 use Rattle.table.specs.Zeros.{noPlace}
 
-abbrev pub newCall : CallRequest → MessageId → ℕ → ℕ → ℕ → List ℕ → Call
-newCall q request id made size name = record {
+abbrev pub newCall : CallRequest → ℕ → MessageId → ℕ → ℕ → ℕ → List ℕ → Call
+newCall q refreshed request id made size name = record {
   endpoint = q .endpoint;
   sender = q .sender;
-  refreshed = 0;
+  refreshed = refreshed;
   epoch = request .epoch;
   identifier = request .identifier;
   id = id;

@@ -1,2 +1,2 @@
-// The changes that an answer makes to the calls of the table: opened, closed, an own identifier taken.
+// The changes that an answer makes to the calls of the table: opened, closed, refreshed, an own identifier taken.
 pub mod slots;

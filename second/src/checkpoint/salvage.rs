@@ -22,9 +22,11 @@ pub fn salvage(fresh: &Table, calls: &[CallRecord], connections: &[ConnectionRec
     node
 }
 
-/// Step 1: the slot is one of the total, and the roster's table with this one call breaks no rule.
+/// Step 1: the slot is one of the total, and the roster's table with this one call breaks no rule. Its refresh never
+/// does, for the time is the latest that is restored (A7).
 fn stands_alone(fresh: &Node, record: &CallRecord) -> bool {
     let mut node = fresh.clone();
+    node.time = record.call.refreshed;
     node.insert_call(record.slot.into(), &record.call).is_some() && node.keeps_share()
 }
 
@@ -50,7 +52,8 @@ fn without_duplicates<'a>(calls: &[&'a CallRecord], connections: &[ConnectionRec
 
 impl Node {
     /// Step 3 for a call: drops it if its slot is taken, its pair has its short ID or, if it is made, its two numbers
-    /// (A6), or a share rule would break. Its long ID is its alone since step 2.
+    /// (A6), or a share rule would break. Its long ID is its alone since step 2. The time is the latest refresh of those
+    /// kept.
     fn keep_call(&mut self, record: &CallRecord) {
         let slot = usize::from(record.slot);
         let ((pair, id), made_by) = (record.short_id(), record.made_by());
@@ -70,8 +73,10 @@ impl Node {
             slot,
             name: record.long_id().1,
             made_by,
+            refreshed: record.call.refreshed,
             places: Places::default(),
         };
+        self.time = self.time.max(open.refreshed);
         self.free.take(slot);
         self.enter(pair, id, open);
     }

@@ -43,6 +43,7 @@ fn calls_in_order(node: &Node) -> BTreeMap<usize, CallRecord> {
         let mut call = Call {
             endpoint: pair.endpoint,
             sender: pair.sender,
+            refreshed: open.refreshed,
             id: id.into(),
             size: open.name.size.into(),
             name: open.name.bytes,

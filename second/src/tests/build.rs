@@ -1,7 +1,7 @@
 //! Messages, rosters and a node under test.
 
-use crate::table::Table;
-use crate::{handle, read_roster, Node};
+use crate::table::{Call, Table};
+use crate::{handle, read_roster, Answered, Clock, Closing, Node};
 
 /// The customers of "Two customers, one table", and an address that is not listed.
 pub const X: u32 = 0x0a00_0001;
@@ -143,11 +143,24 @@ fn packed(form: u8, records: &[(u32, u16, u16)], share: fn(u16, u16) -> u16) -> 
     bytes
 }
 
+/// A time and a period.
+pub fn at(time: u32, period: u32) -> Clock {
+    Clock { time, period }
+}
+
+/// A message at time 0 with period 0, to a table whose time is 0: answer, reply length and the table afterwards.
+pub fn handle_at_0(table: &Table, message: &[u8], reply: &mut [u8]) -> (u8, usize, Table) {
+    let (answered, after) = handle(table, Clock::ZERO, message, reply);
+    assert_eq!(answered.closings, []);
+    (answered.answer, answered.length, after)
+}
+
 /// A node under test: the table from message to message, and beside it a `Node` that stays.
 pub struct TestNode {
     pub table: Table,
     pub node: Node,
     pub reply: Vec<u8>,
+    pub closings: Vec<Closing>,
 }
 
 impl TestNode {
@@ -174,23 +187,35 @@ impl TestNode {
             table,
             node,
             reply: Vec::new(),
+            closings: Vec::new(),
         }
     }
 
-    /// The answer to a message. Checks what 01 says of every answer.
+    /// The answer to a message at time 0 with period 0.
     pub fn ask(&mut self, message: &[u8]) -> u8 {
+        self.ask_at(Clock::ZERO, message)
+    }
+
+    /// The answer to a message. Checks what 01 and A7 say of every answer.
+    pub fn ask_at(&mut self, clock: Clock, message: &[u8]) -> u8 {
         let (mut buffer, mut other) = ([OLD; 160], [OLD; 160]);
-        let (answer, length, after) = handle(&self.table, message, &mut buffer);
-        assert_eq!(self.node.answer(message, &mut other), (answer, length));
+        let (answered, after) = handle(&self.table, clock, message, &mut buffer);
+        assert_eq!(self.node.answer(clock, message, &mut other), answered);
         assert_eq!(buffer, other);
         assert_eq!(self.node.to_table(), after);
         assert!(Node::from_table(&after).is_some(), "answer 1 never comes");
-        check_change(answer, &self.table, &after);
+        let Answered {
+            answer,
+            length,
+            closings,
+        } = answered;
+        check_change(answer, &elapsed(&self.table, clock, &closings), &after);
         let replied = matches!(answer, 20..=22 | 30..=35 | 37);
         assert_eq!(length > 0, replied);
         assert!(buffer[length..].iter().all(|&byte| byte == OLD));
         self.table = after;
         self.reply = buffer[..length].to_vec();
+        self.closings = closings;
         answer
     }
 
@@ -215,12 +240,34 @@ impl TestNode {
     }
 }
 
-/// "Answers that send none leave the table equal, but for 23 and 25"; the own identifier moves with a Notify.
+/// The table behind the closings: its time raised, and the slots listed freed. Each of them was a call of the address
+/// listed, without connections.
+fn elapsed(before: &Table, clock: Clock, closings: &[Closing]) -> Table {
+    let mut table = Table {
+        time: before.time.max(clock.time),
+        ..*before
+    };
+    for closing in closings {
+        let slot = closing.slot as usize;
+        assert!(table.uses(slot) && table.calls[slot].sender == closing.address);
+        assert!(table.calls[slot].places.iter().all(|place| place.taken == 0));
+        table.calls[slot] = Call::FREE;
+        table.occupied[slot / 32] ^= 1 << (slot % 32);
+    }
+    table
+}
+
+/// "Answers that send none leave the table equal, but for 23 and 25"; the own identifier moves with a Notify. Equal is
+/// read from the table behind the closings, the refresh that a 21 sets left out (A7).
 fn check_change(answer: u8, before: &Table, after: &Table) {
     let notify = matches!(answer, 20..=22 | 30..=34);
     let next = before.next.wrapping_add(notify.into());
-    assert_eq!(after.next, next);
+    assert_eq!((after.next, after.time), (next, before.time));
     let changes = matches!(answer, 20 | 22 | 23 | 25);
-    let rest = Table { next, ..*before };
+    let mut rest = Table { next, ..*before };
+    if answer == 21 {
+        let refreshed = (0..200).find(|&slot| rest.calls[slot] != after.calls[slot]);
+        refreshed.inspect(|&slot| rest.calls[slot].refreshed = before.time);
+    }
     assert_eq!(rest != *after, changes);
 }

@@ -2,7 +2,7 @@
 
 use super::build::*;
 use crate::table::Table;
-use crate::{handle, read_message, Message};
+use crate::{read_message, Message};
 
 /// A right checksum put in, by a sum of its own.
 fn with_checksum(mut message: Vec<u8>) -> Vec<u8> {
@@ -34,7 +34,7 @@ fn a_broken_table_is_1_before_all_else() {
         ..TestNode::two().table
     };
     let mut reply = [OLD; 5];
-    assert_eq!(handle(&broken, &[], &mut reply), (1, 0, broken));
+    assert_eq!(handle_at_0(&broken, &[], &mut reply), (1, 0, broken));
     assert_eq!(reply, [OLD; 5]);
 }
 
@@ -44,13 +44,13 @@ fn a_buffer_of_127_is_2_and_128_is_enough() {
     let largest = open(X, 5, &[b'n'; 32]);
     for size in [0, 120, 127] {
         let mut reply = vec![OLD; size];
-        assert_eq!(handle(&table, &largest, &mut reply), (2, 0, table));
-        assert_eq!(handle(&table, &[], &mut reply).0, 2);
-        assert_eq!(handle(&table, &tear(X, 0, 1), &mut reply).0, 2);
+        assert_eq!(handle_at_0(&table, &largest, &mut reply), (2, 0, table));
+        assert_eq!(handle_at_0(&table, &[], &mut reply).0, 2);
+        assert_eq!(handle_at_0(&table, &tear(X, 0, 1), &mut reply).0, 2);
         assert!(reply.iter().all(|&byte| byte == OLD));
     }
     let mut reply = [OLD; 128];
-    let (answer, length, _) = handle(&table, &largest, &mut reply);
+    let (answer, length, _) = handle_at_0(&table, &largest, &mut reply);
     assert_eq!((answer, length), (20, 120));
     assert_eq!(reply[120..], [OLD; 8]);
 }

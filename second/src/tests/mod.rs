@@ -1,11 +1,13 @@
-//! Tests from document 01's own examples and sentences and from those of requests A1, A6, A11 and A13. Expected values
-//! come from there.
+//! Tests from document 01's own examples and sentences and from those of requests A1, A6, A7, A11 and A13. Expected
+//! values come from there.
 
 mod build;
 mod calls;
 mod checkpoint_bytes;
 mod checkpoints;
 mod connections;
+mod expiry;
+mod expiry_rules;
 mod form;
 mod nameless;
 mod nameless_rules;

@@ -87,10 +87,10 @@ fn a_name_that_ends_in_zero() {
 }
 
 #[test]
-fn refresh_mark_and_numbers() {
+fn mark_and_numbers() {
     for bit in 0..8 {
-        // The last refresh is for a later request; the numbers of an unmarked call are zeros (A6).
-        for at in 44..55 {
+        // The numbers of an unmarked call are zeros (A6).
+        for at in 48..55 {
             assert!(drops(|record| record[at] = 1 << bit));
         }
         for at in 48..55 {
@@ -107,7 +107,7 @@ fn refresh_mark_and_numbers() {
 fn what_step_1_dropped_takes_nothing() {
     // Neither a slot, nor a short ID, nor a share, nor a part in step 2.
     let mut bad = call(0, 5, X, b"ab");
-    bad[44] = 1;
+    bad[48] = 1;
     let calls = [bad, call(0, 6, X, b"ab"), call(1, 5, X, b"c")];
     let connections = [under(5, X, 1), under(5, X, 2), under(6, X, 3)];
     let read = salvage(&[(X, 1, 2), (Y, 62, 64)], &checkpoint(&calls, &connections));

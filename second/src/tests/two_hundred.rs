@@ -3,7 +3,7 @@
 use super::build::*;
 use super::checkpoint_bytes::*;
 use crate::table::{Call, Customer, Table};
-use crate::{handle, read_checkpoint, read_roster, write_checkpoint, Node};
+use crate::{read_checkpoint, read_roster, write_checkpoint, Node};
 
 /// The occupied bits of a full table of form 2: none past slot 199.
 const ALL_200: [u32; 8] = {
@@ -150,7 +150,7 @@ fn a_limit_above_64() {
 fn breaks(sound: &Table, change: impl FnOnce(&mut Table)) -> bool {
     let mut table = *sound;
     change(&mut table);
-    let (answer, length, after) = handle(&table, &[], &mut [OLD; 128]);
+    let (answer, length, after) = handle_at_0(&table, &[], &mut [OLD; 128]);
     assert_eq!((length, after), (0, table));
     assert_eq!(answer == 1, Node::from_table(&table).is_none());
     answer == 1

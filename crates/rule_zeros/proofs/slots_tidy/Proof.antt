@@ -11,10 +11,13 @@ use Rattle.rule_zeros.proofs.slots_tidy.Statement.{statement}
 use Rattle.rule_zeros.proofs.slots_tidy.Tie as tie
 
 abbrev Inv-loop : tie.InvT-loop
-Inv-loop t masks n tidy₀ i₀ tidy i = (i ≤ n) × (tidy ≡ everyBelow (slotTidy (tableOf t)) i)
+Inv-loop t masks time n tidy₀ i₀ tidy i = (i ≤ n) × (tidy ≡ everyBelow (slotTidy (tableOf t)) i)
 
 abbrev μ-loop : tie.MeasureT-loop
-μ-loop t masks n tidy₀ i₀ tidy i = n - i
+μ-loop t masks time n tidy₀ i₀ tidy i = n - i
+
+time-requires : tie.Need-time-requires Inv-loop μ-loop
+time-requires c κs = search needs
 
 used-below-requires : tie.Need-used-below-requires Inv-loop μ-loop
 used-below-requires c κs = search needs
@@ -34,7 +37,7 @@ loop-less c = search needs
 loop-again : tie.Need-loop-again Inv-loop μ-loop
 loop-again c =
     let l = c .before .before .before in
-    (omega arith, every-turn _ _ _ _ (l .loop .inv .1) (c .slot-tidy .ensures))
+    (omega arith, every-turn _ _ _ _ (l .loop .inv .1) (rw (l .before .before .time .ensures) at (c .slot-tidy .ensures)))
 
 calls-clear-from-requires : tie.Need-calls-clear-from-requires Inv-loop μ-loop
 calls-clear-from-requires c κs = search needs
@@ -43,7 +46,7 @@ returns : tie.Need-returns Inv-loop μ-loop
 returns c =
     let l = c .before .before in
     let n = l .before .used-below in
-    let t = tableOf (l .before .before .args .t .now) in
+    let t = tableOf (l .before .before .before .args .t .now) in
     let e : l .loop .i ≡ n .result = omega arith in
     rw (l .loop .inv .1, e, c .calls-clear-from .ensures) (slots-tidy t (n .result) (n .ensures .0) (n .ensures .1))
 
@@ -53,6 +56,7 @@ slots-tidy-spec =
     (tie.spec
     Inv-loop
     μ-loop
+    time-requires
     used-below-requires
     loop-holds
     slot-tidy-requires

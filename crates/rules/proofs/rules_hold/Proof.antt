@@ -6,37 +6,38 @@ use borrow.Author.Tests.{not-true, not-false}
 use borrow.Author.Needs.{needs}
 use Rattle.lists.proofs.Tests.{both}
 use Rattle.table.specs.Table.{Table}
-use Rattle.table.specs.Rules.{holds, rosterAcceptable, slotsWithinTotal, sendersListed, withinLimits, shareWithinTotal, shortIdsOnce, longIdsOnce, requestsOnce, namesAndIds, connectionsOnce, freeHoldsZeros, rulesHold}
+use Rattle.table.specs.Rules.{holds, rosterAcceptable, slotsWithinTotal, sendersListed, withinLimits, shareWithinTotal, shortIdsOnce, longIdsOnce, requestsOnce, namesAndIds, refreshesPast, connectionsOnce, freeHoldsZeros, rulesHold}
 use Rattle.table.specs.Words.{tableOf}
 use Rattle.rule_keys.proofs.SameKey.{keys-say}
 use Rattle.rules.proofs.rules_hold.Statement.{statement}
 use Rattle.rules.proofs.rules_hold.Tie as tie
 
 -- the rules in the order in which they stand, and in the order in which they are tested
-regrouped : (r l w h a b q n c z : Bool) → (r && l && w && h && a && b && q && n && c && z) ≡ (r && (n && z) && (l && w && h && (a && b && q && c)))
-regrouped false l w h a b q n c z = refl
-regrouped true false w h a b q n c z = sym (and-false (n && z))
-regrouped true true false h a b q n c z = sym (and-false (n && z))
-regrouped true true true false a b q n c z = sym (and-false (n && z))
-regrouped true true true true false b q n c z = sym (and-false (n && z))
-regrouped true true true true true false q n c z = sym (and-false (n && z))
-regrouped true true true true true true false n c z = sym (and-false (n && z))
-regrouped true true true true true true true true c z = by c z
+regrouped : (r l w h a b q n p c z : Bool) → (r && l && w && h && a && b && q && n && p && c && z) ≡ (r && (n && p && z) && (l && w && h && (a && b && q && c)))
+regrouped false l w h a b q n p c z = refl
+regrouped true false w h a b q n p c z = sym (and-false (n && p && z))
+regrouped true true false h a b q n p c z = sym (and-false (n && p && z))
+regrouped true true true false a b q n p c z = sym (and-false (n && p && z))
+regrouped true true true true false b q n p c z = sym (and-false (n && p && z))
+regrouped true true true true true false q n p c z = sym (and-false (n && p && z))
+regrouped true true true true true true false n p c z = sym (and-false (n && p && z))
+regrouped true true true true true true true true true c z = by c z
   where
     by : (c z : Bool) → (c && z) ≡ (z && c)
     by true true = refl
     by true false = refl
     by false true = refl
     by false false = refl
-regrouped true true true true true true true false c z = refl
+regrouped true true true true true true true true false c z = refl
+regrouped true true true true true true true false p c z = refl
 
 all-three : {a b c x y z : Bool} → a ≡ x → b ≡ y → c ≡ z → (a && b && c) ≡ (x && y && z)
 all-three p q r = rw (p, q, r)
 
--- the rules in three groups: roster, slots, names and zeros; counts; nothing stands twice
+-- the rules in three groups: roster, slots, names, refreshes and zeros; counts; nothing stands twice
 module _ (t : Table) where
   abbrev tidy : Bool
-  tidy = holds rosterAcceptable t && holds slotsWithinTotal t && (holds namesAndIds t && holds freeHoldsZeros t)
+  tidy = holds rosterAcceptable t && holds slotsWithinTotal t && (holds namesAndIds t && holds refreshesPast t && holds freeHoldsZeros t)
 
   abbrev within : Bool
   within = holds sendersListed t && holds withinLimits t && holds shareWithinTotal t
@@ -48,7 +49,7 @@ module _ (t : Table) where
   unfolding rulesHold
   rules-are =
       regrouped (holds rosterAcceptable t && holds slotsWithinTotal t) (holds sendersListed t) (holds withinLimits t) (holds shareWithinTotal t) (holds shortIdsOnce t) (holds longIdsOnce t) (holds requestsOnce t) (holds namesAndIds t)
-      (holds connectionsOnce t) (holds freeHoldsZeros t)
+      (holds refreshesPast t) (holds connectionsOnce t) (holds freeHoldsZeros t)
 
   untidy : tidy ≡ false → false ≡ rulesHold t
   untidy h = sym (rw (rules-are, h))
@@ -99,7 +100,7 @@ returns-3 c =
     let w = n .before .before .before .args .t .now in
     let t = tableOf w in
     let tidy = both (n .before .before .roster-holds .result && n .before .slots-within-total .result) (n .names-and-zeros .result) (not-false _ (i .if1 .left)) in
-    let zeros = both (holds namesAndIds t) (holds freeHoldsZeros t) (sym (n .names-and-zeros .ensures) ∙ tidy .1) .1 in
+    let zeros = both (holds namesAndIds t && holds refreshesPast t) (holds freeHoldsZeros t) (sym (n .names-and-zeros .ensures) ∙ tidy .1) .1 in
     let k = keys-say w zeros (c .before .keys-apart .ensures (c .if3 .taken)) in
     left-over t true (sym (all-three (n .before .before .roster-holds .ensures) (n .before .slots-within-total .ensures) (n .names-and-zeros .ensures)) ∙ not-false _ (i .if1 .left))
     (sym (j .before .shares-hold .ensures) ∙ not-false _ (j .if2 .left)) (sym (rw (k .0, k .1, k .2, k .3)))
@@ -110,7 +111,8 @@ ids-once-requires c κs =
     let n = i .before in
     let tidy = both (n .before .before .roster-holds .result && n .before .slots-within-total .result) (n .names-and-zeros .result) (not-false _ (i .if1 .left)) in
     let t = tableOf (n .before .before .before .args .t .now) in
-    both (holds namesAndIds t) (holds freeHoldsZeros t) (sym (n .names-and-zeros .ensures) ∙ tidy .1)
+    let zeros = both (holds namesAndIds t && holds refreshesPast t) (holds freeHoldsZeros t) (sym (n .names-and-zeros .ensures) ∙ tidy .1) in
+    (both (holds namesAndIds t) (holds refreshesPast t) (zeros .0) .0, zeros .1)
 
 connections-once-requires : tie.Need-connections-once-requires
 connections-once-requires c κs =

@@ -14,7 +14,7 @@ use Rattle.find_call.proofs.Looks.{found, slot-inside}
 use Rattle.outcomes.proofs.Ruled.{ruled-by}
 use Rattle.messages.specs.Status.{callBit, deleteBit}
 use Rattle.answer_call.specs.Notified.{replyBytes}
-use Rattle.answer_call.proofs.Sent.{sent-from}
+use Rattle.answer_call.proofs.Sent.{sent-from, with-bytes, freed-bytes}
 use borrow.Author.Needs.{needs}
 use Rattle.answer_call.proofs.named.close_call.Statement.{statement}
 use Rattle.answer_call.proofs.named.close_call.Tie as tie
@@ -75,7 +75,8 @@ returns-3 c =
     let q = z .args .q in
     let f = found t (idsIn (z .args .msg .now) q) _ (c .before .before .before .before .before .before .before .before .before .before .look-up .ensures) in
     let some = z .pre .2 .callSome in
-    let n = sent-from (λ w. replyBytes w (z .args .msg .now) q (callBit + deleteBit) CallClosed) (c .before .before .before .before .before .close-slot .ensures) (c .before .before .notified3 .ensures) in
+    let sent = sent-from (λ w. replyBytes w (z .args .msg .now) q (callBit + deleteBit) CallClosed) (c .before .before .before .before .before .close-slot .ensures) (c .before .before .notified3 .ensures) in
+    let n = with-bytes (freed-bytes t _ (z .args .msg .now) q (callBit + deleteBit) CallClosed) sent in
     ruled-by t _ _ (Close q) CallClosed _ _ _ _
     (close-idle _ _ _ (sym (f .known) ∙ not-false _ (c .before .before .before .before .before .before .before .before .if1 .left)) (sym (f .busy (λ e. omega (arith, e, some))) ∙ c .before .before .before .before .before .before .before .if2 .left))
     (n .answer) (n .length) (n .table ∙ ap identifierTaken (closed-is t _ _ (f .slot))) (n .reply)

@@ -10,16 +10,19 @@ use Rattle.table.proofs.Within.{total-most}
 use Rattle.answers.specs.declared.answer.Answer.the-variants.{CallAlreadyOpen, DuplicateCall, CallIdContention, NoShare, CallOpened}
 use Rattle.spec_calls.specs.CallRules.{idsIn}
 use Rattle.spec_calls.proofs.Decided.{open-again, open-duplicate, open-contention, open-no-share, open-new}
-use Rattle.spec_calls.proofs.Nameless.{named-retry, named-long, named-short, named-new, named-reply}
+use Rattle.spec_calls.proofs.Nameless.{named-retry, named-slot, named-long, named-short, named-new, named-reply}
 use Rattle.spec_calls.proofs.Ruled.{open-room}
-use Rattle.find_call.proofs.Looks.{found}
+use Rattle.find_call.proofs.Looks.{found, slot-inside}
 use Rattle.answer_call.specs.Notified.{replyBytes}
-use Rattle.answer_call.proofs.Sent.{sent-from, opened-bytes, open-refused, open-answered}
+use Rattle.answer_call.proofs.Sent.{sent-from, opened-bytes, refreshed-bytes, open-refused, open-again-sent, open-answered}
 use Rattle.answer_call.proofs.named.open_call.Statement.{statement}
 use Rattle.answer_call.proofs.named.open_call.Tie as tie
 
 look-up-requires : tie.Need-look-up-requires
 look-up-requires c κs = search needs
+
+refresh-slot-requires : tie.Need-refresh-slot-requires
+refresh-slot-requires c κs = slot-inside _ _ _ (c .before .before .look-up .ensures) (c .before .if1 .taken)
 
 notified-requires : tie.Need-notified-requires
 notified-requires c κs = search needs
@@ -29,14 +32,17 @@ same-length c = search needs
 
 returns : tie.Need-returns
 returns c =
-    let k = c .before .before .before .before .before in
+    let w = c .before .before .before .before .before in
+    let k = w .before .before in
     let z = k .before .before .before .before .before in
     let t = tableOf (z .args .t .now) in
     let s = z .args .msg .now in
     let q = z .args .q in
     let n = ne-eqb (q .name .size) 0 (omega (arith, z .pre .3)) in
     let f = found t (idsIn s q) _ (k .before .look-up .ensures) in
-    open-refused t s _ q CallAlreadyOpen _ _ _ _ (open-again _ _ _ _ _ (named-retry q n (entries t) s ∙ sym (f .known) ∙ k .if1 .taken)) refl refl (sym (named-reply q n t s CallAlreadyOpen)) (c .before .before .notified .ensures)
+    let sent = sent-from (λ v. replyBytes v s q callBit CallAlreadyOpen) (w .refresh-slot .ensures) (c .before .before .notified .ensures) in
+    open-again-sent t s _ q _ _ _ _ _ (open-again _ _ _ _ _ (named-retry q n (entries t) s ∙ sym (f .known) ∙ k .if1 .taken)) (f .slot ∙ sym (named-slot q n t s))
+    (refreshed-bytes t _ s q callBit CallAlreadyOpen ∙ sym (named-reply q n t s CallAlreadyOpen)) sent
 
 notified-requires-2 : tie.Need-notified-requires-2
 notified-requires-2 c κs = search needs
@@ -55,7 +61,7 @@ returns-2 c =
     let n = ne-eqb (q .name .size) 0 (omega (arith, z .pre .3)) in
     let f = found t (idsIn s q) _ (k .before .look-up .ensures) in
     open-refused t s _ q DuplicateCall _ _ _ _
-    (open-duplicate _ _ _ _ _ (named-retry q n (entries t) s ∙ sym (f .known) ∙ k .if1 .left) (named-long q n (entries t) s ∙ sym (f .long) ∙ l .if2 .taken)) refl refl
+    (open-duplicate _ _ _ _ _ (named-retry q n (entries t) s ∙ sym (f .known) ∙ k .if1 .left) (named-long q n (entries t) s ∙ sym (f .long) ∙ l .if2 .taken)) refl refl refl
     (sym (named-reply q n t s DuplicateCall)) (c .before .before .notified2 .ensures)
 
 notified-requires-3 : tie.Need-notified-requires-3
@@ -76,7 +82,7 @@ returns-3 c =
     let n = ne-eqb (q .name .size) 0 (omega (arith, z .pre .3)) in
     let f = found t (idsIn s q) _ (k .before .look-up .ensures) in
     open-refused t s _ q CallIdContention _ _ _ _
-    (open-contention _ _ _ _ _ (named-retry q n (entries t) s ∙ sym (f .known) ∙ k .if1 .left) (named-long q n (entries t) s ∙ sym (f .long) ∙ l .if2 .left) (named-short q n (entries t) s ∙ sym (f .short) ∙ h .if3 .taken)) refl refl
+    (open-contention _ _ _ _ _ (named-retry q n (entries t) s ∙ sym (f .known) ∙ k .if1 .left) (named-long q n (entries t) s ∙ sym (f .long) ∙ l .if2 .left) (named-short q n (entries t) s ∙ sym (f .short) ∙ h .if3 .taken)) refl refl refl
     (sym (named-reply q n t s CallIdContention)) (c .before .before .notified3 .ensures)
 
 share-used-up-requires : tie.Need-share-used-up-requires
@@ -102,7 +108,7 @@ returns-4 c =
     let f = found t (idsIn s q) _ (k .before .look-up .ensures) in
     open-refused t s _ q NoShare _ _ _ _
     (open-no-share _ _ _ _ _ (named-retry q n (entries t) s ∙ sym (f .known) ∙ k .if1 .left) (named-long q n (entries t) s ∙ sym (f .long) ∙ l .if2 .left) (named-short q n (entries t) s ∙ sym (f .short) ∙ h .if3 .left)
-    (sym (u .before .share-used-up .ensures) ∙ u .if4 .taken)) refl refl
+    (sym (u .before .share-used-up .ensures) ∙ u .if4 .taken)) refl refl refl
     (sym (named-reply q n t s NoShare)) (c .before .before .notified4 .ensures)
 
 lowest-free-requires : tie.Need-lowest-free-requires
@@ -156,6 +162,7 @@ open-call-spec =
     tie.close
     (tie.spec
     look-up-requires
+    refresh-slot-requires
     notified-requires
     same-length
     returns

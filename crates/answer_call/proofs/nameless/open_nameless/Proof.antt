@@ -12,10 +12,10 @@ use Rattle.spec_changes.proofs.Slot.{found-slot}
 use Rattle.answers.specs.declared.answer.Answer.the-variants.{CallAlreadyOpen, NoShare, CallOpened}
 use Rattle.spec_calls.specs.CallRules.{isMadeBy}
 use Rattle.spec_calls.proofs.Decided.{open-again, open-no-share, open-new}
-use Rattle.spec_calls.proofs.Nameless.{made-retry, made-long, made-short, reply-21, reply-34}
+use Rattle.spec_calls.proofs.Nameless.{made-retry, found-same, made-long, made-short, reply-21, reply-34}
 use Rattle.spec_calls.proofs.Ruled.{open-room}
 use Rattle.answer_call.specs.Notified.{madeBytes}
-use Rattle.answer_call.proofs.Sent.{sent-from, opened-made, open-refused, open-answered}
+use Rattle.answer_call.proofs.Sent.{sent-from, opened-made, open-refused, open-again-sent, open-answered}
 use Rattle.answer_call.proofs.Made.{made-is-new, made-reply}
 use borrow.Author.Needs.{needs}
 use Rattle.answer_call.proofs.nameless.open_nameless.Statement.{statement}
@@ -46,7 +46,7 @@ returns c =
     let q = z .args .q in
     let n = eq-eqb (q .name .size) 0 (z .pre .3) in
     let bytes = ap (λ k. madeBytes t s q CallAlreadyOpen (idsOf (callAt t k) .short) (idsOf (callAt t k) .long)) (m .find-made .ensures .1) in
-    open-refused t s _ q CallAlreadyOpen _ _ _ _ (open-again _ _ _ _ _ (made-retry q n (entries t) s ∙ sym (m .find-made .ensures .0) ∙ i .if1 .taken)) refl refl
+    open-again-sent t s _ q _ _ _ _ _ (open-again _ _ _ _ _ (made-retry q n (entries t) s ∙ sym (m .find-made .ensures .0) ∙ i .if1 .taken)) (m .find-made .ensures .1 ∙ sym (found-same q n t s))
     (bytes ∙ sym (reply-21 q n t s)) (c .before .before .answered-again .ensures)
 
 share-used-up-requires : tie.Need-share-used-up-requires
@@ -69,7 +69,7 @@ returns-2 c =
     let q = z .args .q in
     let n = eq-eqb (q .name .size) 0 (z .pre .3) in
     open-refused t s _ q NoShare _ _ _ _
-    (open-no-share _ _ _ _ _ (made-retry q n (entries t) s ∙ sym (m .find-made .ensures .0) ∙ i .if1 .left) (made-long q n (entries t) s) (made-short q n (entries t) s) (sym (u .before .share-used-up .ensures) ∙ u .if2 .taken)) refl refl
+    (open-no-share _ _ _ _ _ (made-retry q n (entries t) s ∙ sym (m .find-made .ensures .0) ∙ i .if1 .left) (made-long q n (entries t) s) (made-short q n (entries t) s) (sym (u .before .share-used-up .ensures) ∙ u .if2 .taken)) refl refl refl
     (sym (reply-34 q n t s)) (c .before .before .notified .ensures)
 
 made-short-requires : tie.Need-made-short-requires

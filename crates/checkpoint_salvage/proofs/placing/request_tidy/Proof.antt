@@ -31,19 +31,13 @@ add-get32 c = search needs
 get32-requires : tie.Need-get32-requires
 get32-requires c κs = search needs
 
-add-get32-2 : tie.Need-add-get32-2
-add-get32-2 c = search needs
-
-get32-requires-2 : tie.Need-get32-requires-2
-get32-requires-2 c κs = search needs
-
 returns : tie.Need-returns
 returns c =
-    let e = c .before .before in
+    let e = c .before in
     let u = e .before in
     let k = u .before .before in
     let a = k .before .args in
-    rw (c .get322 .ensures, c .before .get32 .ensures, e .get24 .ensures)
+    rw (c .get32 .ensures, e .get24 .ensures)
     (request-is (a .s .now) (a .i) _ (u .to-usize .ensures .0) (u .to-usize .ensures .1) (λ j. k .shared-slice-known .given j .fits))
 
 pub request-tidy-spec : {M : Type 1} → statement M
@@ -59,6 +53,4 @@ request-tidy-spec =
     get24-requires
     add-get32
     get32-requires
-    add-get32-2
-    get32-requires-2
     returns)

@@ -4,22 +4,12 @@ use Rattle.messages.proofs.Inside.{read-inside}
 use Rattle.table.specs.Lists.{roster}
 use Rattle.table.specs.Share.{isListed}
 use Rattle.table.specs.Words.{tableOf}
-use Rattle.answers.specs.declared.answer.Answer.the-variants.{BufferTooSmall, Malformed, SenderNotListed}
-use Rattle.outcomes.proofs.Handled.{handled-faulty, handled-sound, form-small, form-refused, form-unfit, form-unfit-unlisted, form-sound, form-unlisted}
+use Rattle.answers.specs.declared.answer.Answer.the-variants.{Malformed, SenderNotListed}
+use Rattle.outcomes.proofs.Handled.{answered-faulty, answered-sound, form-refused, form-unfit, form-unfit-unlisted, form-sound, form-unlisted}
 use Rattle.outcomes.proofs.Unanswered.{left-quiet}
 use borrow.Author.Needs.{needs}
 use Rattle.node.proofs.handle.handle_checked.Statement.{statement}
 use Rattle.node.proofs.handle.handle_checked.Tie as tie
-
-unanswered-requires : tie.Need-unanswered-requires
-unanswered-requires c κs = search needs
-
-returns : tie.Need-returns
-returns c =
-    let s = c .before .before .before .before in
-    let t = tableOf (s .args .t .now) in
-    left-quiet t _ BufferTooSmall _ (c .unanswered .ensures)
-    ∙ sym (handled-faulty t _ _ BufferTooSmall (s .pre) (form-small _ _ _ (search needs)))
 
 read-requires : tie.Need-read-requires
 read-requires c κs = search needs
@@ -27,8 +17,8 @@ read-requires c κs = search needs
 enum-known-x : tie.Need-enum-known-x
 enum-known-x c = search needs
 
-unanswered-requires-2 : tie.Need-unanswered-requires-2
-unanswered-requires-2 c κs = search needs
+unanswered-requires : tie.Need-unanswered-requires
+unanswered-requires c κs = search needs
 
 enum-known-x-2 : tie.Need-enum-known-x-2
 enum-known-x-2 c = search needs
@@ -36,19 +26,21 @@ enum-known-x-2 c = search needs
 listing-of-requires : tie.Need-listing-of-requires
 listing-of-requires c κs = search needs
 
+unanswered-requires-2 : tie.Need-unanswered-requires-2
+unanswered-requires-2 c κs = search needs
+
+returns : tie.Need-returns
+returns c =
+    let k = c .before .before in
+    let r = k .before .before .before .before .before in
+    let s = r .before .before .before in
+    let t = tableOf (s .args .t .now) in
+    left-quiet t _ (Malformed _) _ (c .unanswered2 .ensures)
+    ∙ sym (answered-faulty t _ _ (Malformed _)
+    (form-unfit _ _ _ (s .pre .1) _ _ _ (sym (r .read .ensures) ∙ k .before .before .before .x2 .given .1) (sym (k .listing-of .ensures .0) ∙ c .before .if1 .taken)))
+
 unanswered-requires-3 : tie.Need-unanswered-requires-3
 unanswered-requires-3 c κs = search needs
-
-returns-2 : tie.Need-returns-2
-returns-2 c =
-    let s = c .before .before .before .before .before .before .before .before .before .before .before in
-    let t = tableOf (s .args .t .now) in
-    left-quiet t _ (Malformed _) _ (c .unanswered3 .ensures)
-    ∙ sym (handled-faulty t _ _ (Malformed _) (s .pre)
-    (form-unfit _ _ _ (search needs) _ _ _ (sym (c .before .before .before .before .before .before .before .read .ensures) ∙ c .before .before .before .before .before .x2 .given .1) (sym (c .before .before .listing-of .ensures .0) ∙ c .before .if2 .taken)))
-
-unanswered-requires-4 : tie.Need-unanswered-requires-4
-unanswered-requires-4 c κs = search needs
 
 enum-known-x-3 : tie.Need-enum-known-x-3
 enum-known-x-3 c = search needs
@@ -61,74 +53,81 @@ listing-of-requires-2 c κs = search needs
 
 handle-message-requires : tie.Need-handle-message-requires
 handle-message-requires c κs =
-    let s = c .before .before .before .before .before .before .before .before .before .before .before .before .before in
-    let t = tableOf (s .args .t .now) in
     let k = c .before .before .before in
-    let e = sym (c .before .before .before .before .before .before .before .before .before .read .ensures) ∙ c .before .before .before .before .before .before .before .x3 .given .1 in
-    (s .pre, sym (k .listing-of2 .ensures .0 ∙ ap (isListed (roster t)) (k .before .sender-of .ensures)) ∙ c .before .before .if3 .taken, read-inside _ _ _ e, search needs)
+    let m = k .before in
+    let r = m .before .before .before .before .before in
+    let s = r .before .before .before in
+    let t = tableOf (s .args .t .now) in
+    let e = sym (r .read .ensures) ∙ m .before .before .before .x3 .given .1 in
+    (s .pre .0, sym (k .listing-of2 .ensures .0 ∙ ap (isListed (roster t)) (m .sender-of .ensures)) ∙ c .before .before .if2 .taken, read-inside _ _ _ e, s .pre .1)
 
 same-length : tie.Need-same-length
 same-length c = search needs
 
+returns-2 : tie.Need-returns-2
+returns-2 c =
+    let k = c .before .before .before .before .before .before in
+    let m = k .before in
+    let r = m .before .before .before .before .before in
+    let s = r .before .before .before in
+    let t = tableOf (s .args .t .now) in
+    let e = sym (r .read .ensures) ∙ m .before .before .before .x3 .given .1 in
+    c .before .before .handle-message .ensures
+    ∙ sym (answered-sound t _ _ _
+    (form-sound _ _ _ (s .pre .1) _ _ e (sym (k .listing-of2 .ensures .0 ∙ ap (isListed (roster t)) (m .sender-of .ensures)) ∙ c .before .before .before .before .before .if2 .taken)))
+
+unanswered-requires-4 : tie.Need-unanswered-requires-4
+unanswered-requires-4 c κs = search needs
+
 returns-3 : tie.Need-returns-3
 returns-3 c =
-    let s = c .before .before .before .before .before .before .before .before .before .before .before .before .before .before .before .before in
+    let r = c .before .before .before .before in
+    let s = r .before .before .before in
     let t = tableOf (s .args .t .now) in
-    let k = c .before .before .before .before .before .before in
-    let e = sym (c .before .before .before .before .before .before .before .before .before .before .before .before .read .ensures) ∙ c .before .before .before .before .before .before .before .before .before .before .x3 .given .1 in
-    c .before .before .handle-message .ensures
-    ∙ sym (handled-sound t _ _ _ (s .pre)
-    (form-sound _ _ _ (search needs) _ _ e (sym (k .listing-of2 .ensures .0 ∙ ap (isListed (roster t)) (k .before .sender-of .ensures)) ∙ c .before .before .before .before .before .if3 .taken)))
-
-unanswered-requires-5 : tie.Need-unanswered-requires-5
-unanswered-requires-5 c κs = search needs
+    left-quiet t _ (Malformed _) _ (c .unanswered .ensures)
+    ∙ sym (answered-faulty t _ _ (Malformed _) (form-refused _ _ _ (s .pre .1) _ _ _ (sym (r .read .ensures) ∙ c .before .before .x .given .1)))
 
 returns-4 : tie.Need-returns-4
 returns-4 c =
-    let s = c .before .before .before .before .before .before .before .before in
+    let k = c .before .before in
+    let r = k .before .before .before .before .before in
+    let s = r .before .before .before in
     let t = tableOf (s .args .t .now) in
-    left-quiet t _ (Malformed _) _ (c .unanswered2 .ensures)
-    ∙ sym (handled-faulty t _ _ (Malformed _) (s .pre) (form-refused _ _ _ (search needs) _ _ _ (sym (c .before .before .before .before .read .ensures) ∙ c .before .before .x .given .1)))
+    left-quiet t _ SenderNotListed _ (c .unanswered3 .ensures)
+    ∙ sym (answered-faulty t _ _ SenderNotListed
+    (form-unfit-unlisted _ _ _ (s .pre .1) _ _ _ (sym (r .read .ensures) ∙ k .before .before .before .x2 .given .1) (sym (k .listing-of .ensures .0) ∙ c .before .if1 .left)))
 
 returns-5 : tie.Need-returns-5
 returns-5 c =
-    let s = c .before .before .before .before .before .before .before .before .before .before .before in
+    let k = c .before .before in
+    let m = k .before in
+    let r = m .before .before .before .before .before in
+    let s = r .before .before .before in
     let t = tableOf (s .args .t .now) in
     left-quiet t _ SenderNotListed _ (c .unanswered4 .ensures)
-    ∙ sym (handled-faulty t _ _ SenderNotListed (s .pre)
-    (form-unfit-unlisted _ _ _ (search needs) _ _ _ (sym (c .before .before .before .before .before .before .before .read .ensures) ∙ c .before .before .before .before .before .x2 .given .1) (sym (c .before .before .listing-of .ensures .0) ∙ c .before .if2 .left)))
-
-returns-6 : tie.Need-returns-6
-returns-6 c =
-    let s = c .before .before .before .before .before .before .before .before .before .before .before .before in
-    let t = tableOf (s .args .t .now) in
-    let k = c .before .before in
-    left-quiet t _ SenderNotListed _ (c .unanswered5 .ensures)
-    ∙ sym (handled-faulty t _ _ SenderNotListed (s .pre)
-    (form-unlisted _ _ _ (search needs) _ _ (sym (c .before .before .before .before .before .before .before .before .read .ensures) ∙ c .before .before .before .before .before .before .x3 .given .1)
-    (sym (k .listing-of2 .ensures .0 ∙ ap (isListed (roster t)) (k .before .sender-of .ensures)) ∙ c .before .if3 .left)))
+    ∙ sym (answered-faulty t _ _ SenderNotListed
+    (form-unlisted _ _ _ (s .pre .1) _ _ (sym (r .read .ensures) ∙ m .before .before .before .x3 .given .1)
+    (sym (k .listing-of2 .ensures .0 ∙ ap (isListed (roster t)) (m .sender-of .ensures)) ∙ c .before .if2 .left)))
 
 pub handle-checked-spec : {M : Type 1} → statement M
 handle-checked-spec =
     tie.close
     (tie.spec
-    unanswered-requires
-    returns
     read-requires
     enum-known-x
-    unanswered-requires-2
+    unanswered-requires
     enum-known-x-2
     listing-of-requires
+    unanswered-requires-2
+    returns
     unanswered-requires-3
-    returns-2
-    unanswered-requires-4
     enum-known-x-3
     sender-of-requires
     listing-of-requires-2
     handle-message-requires
     same-length
+    returns-2
+    unanswered-requires-4
     returns-3
-    unanswered-requires-5
     returns-4
-    returns-5
-    returns-6)
+    returns-5)

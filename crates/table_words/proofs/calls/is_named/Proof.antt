@@ -1,11 +1,12 @@
 -- `calls::is_named` meets its contract: the words compared so far are the same.
-use Prim.Native.Nat.{ℕ, _+_, _*_, _≤_, _-_}
+use Prim.Native.Nat.{ℕ, _+_, _≤_, _-_}
 use native.Mathlib.Omega.{arith}
 use mathlib.Core.Path.{_≡_, sym, ap, _∙_}
 use lib.Dec.{eqb}
 use lib.ListN.{getD}
 use Rattle.lists.specs.Below.{everyBelow}
 use Rattle.lists.proofs.Below.{every-none, every-turn}
+use Rattle.table.specs.Words.{callStart}
 use Rattle.table.proofs.Cells.{call-at}
 use Rattle.table.proofs.Names.{names-by-words}
 use borrow.Author.Needs.{needs}
@@ -49,7 +50,7 @@ loop-again : tie.Need-loop-again Inv-loop μ-loop
 loop-again c =
     let l = c .before .before .before .loop in
     let a = c .before .before .before .before .args in
-    (omega arith, every-turn _ _ _ _ (l .inv .1) (rw (c .word .ensures) (ap (λ (n : ℕ). eqb (getD (a .name .now) n 0) (getD (a .t .now) (197 + 32 * a .i + 8 + l .k) 0)) (omega arith))))
+    (omega arith, every-turn _ _ _ _ (l .inv .1) (rw (c .word .ensures) (ap (λ (n : ℕ). eqb (getD (a .name .now) n 0) (getD (a .t .now) (callStart (a .i) + 8 + l .k) 0)) (omega arith))))
 
 returns : tie.Need-returns Inv-loop μ-loop
 returns c =

@@ -1,6 +1,7 @@
 -- `head::set_next` meets its contract.
-use Rattle.table_words.proofs.Stored.{next-stored}
+use native.Mathlib.Omega.{arith}
 use borrow.Author.Needs.{needs}
+use Rattle.table_words.proofs.Stored.{head-stored}
 use Rattle.table_words.proofs.head.set_next.Statement.{statement}
 use Rattle.table_words.proofs.head.set_next.Tie as tie
 
@@ -11,7 +12,7 @@ element-write-t : tie.Need-element-write-t
 element-write-t c = search needs
 
 returns : tie.Need-returns
-returns c = next-stored (c .before .before .args .t .now) (c .before .before .args .next) (c .sized .ensures)
+returns c = let a = c .before .before .args in head-stored (a .t .now) 2 (a .next) (c .sized .ensures) (omega arith)
 
 pub set-next-spec : {M : Type 1} → statement M
 set-next-spec = tie.close (tie.spec sized-requires element-write-t returns)
