@@ -19,8 +19,8 @@ use Rattle.spec_changes.proofs.Opened.{slot-count, slot-used}
 use Rattle.spec_changes.proofs.Freed.{shape-sized}
 use Rattle.spec_changes.proofs.Expired.{closing-found, closing-listed, closings-rising, elapsed-counted, elapsed-used}
 use Rattle.answers.specs.Answers.{is}
-use Rattle.spec_promises.specs.Promises.{Input, fed, atOnce, tableFound, ClosingsPromised, Agrees}
-use Rattle.spec_promises.specs.Claims.{sameClosing, ExpiredIdle, ExpiredAll, Period0}
+use Rattle.spec_promises.specs.Promises.{sameClosing, Input, fed, atOnce, tableFound, ClosingsPromised, Agrees}
+use Rattle.spec_promises.specs.Claims.{ExpiredIdle, ExpiredAll, Period0}
 use Rattle.spec_promises.proofs.Found.{found-by}
 
 -- ---- what is listed

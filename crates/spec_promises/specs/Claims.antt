@@ -4,7 +4,6 @@ use Prim.Native.Nat.{ℕ, max, _-_, _*_, _≤_, _<_}
 use mathlib.Core.Path.{_≡_}
 use mathlib.Core.List.{List, []}
 use mathlib.Core.Bool.{Bool, true, false, cond, _&&_}
-use lib.Dec.{eqb}
 use lib.ListN.{length, take, drop}
 use Rattle.numbers.specs.BigEndian.{Bytes}
 use Rattle.numbers.specs.Checksum.{wordsSum}
@@ -29,7 +28,7 @@ use Rattle.spec_calls.specs.CallRules.{nameless, isMadeBy, isNamedBy, isOpen, i
 use Rattle.spec_calls.specs.Handling.{ownId, notifyFor, replyAfter}
 use Rattle.spec_promises.specs.Ledger.{Fed, feed, dropped, ledger}
 use Rattle.spec_promises.specs.Connections.{connectionsAfter, isHeld, isTornDown, isSetUp}
-use Rattle.spec_promises.specs.Promises.{Input, handledBy, fed, tableThen, atOnce, tableFound, AtEveryStep, Promised, Agrees, Unchanged, Cause}
+use Rattle.spec_promises.specs.Promises.{Input, handledBy, fed, tableThen, atOnce, tableFound, AtEveryStep, sameClosing, Promised, Agrees, Unchanged, Cause}
 
 -- ---- the runs that claims are about
 
@@ -120,9 +119,6 @@ pub record Lapsed (t : Table) (x : Input) (c : Closing) : Type 0 where
   pub idle : isIdle (callAt t (c .slot)) ≡ true
   pub long : 5 * x .period ≤ max (t .time) (x .time) - callAt t (c .slot) .refreshed
 
-abbrev pub sameClosing : Closing → Closing → Bool
-sameClosing c d = eqb (c .slot) (d .slot) && eqb (c .address) (d .address)
-
 abbrev pub ExpiredIdle : Type 0
 ExpiredIdle = (t : Table) (x : Input) (c : Closing) → has (sameClosing c) (fed t x .closings) ≡ true → Lapsed t x c
 
@@ -205,8 +201,8 @@ pub record InFront (reply before after : List ℕ) : Type 0 where
   pub behind : drop (length reply) after ≡ drop (length reply) before
   pub long : length after ≡ length before
 
--- any table of words, any message and buffer: the buffer holds the complete reply in front and its old bytes behind it, and where no
--- reply is sent exactly its old bytes
+-- any table of words, any message and buffer: the buffer holds the complete reply in front and its old bytes behind it;
+-- where no reply is sent, exactly its old bytes
 pub record BufferHolds (t : Table) (x : Input) : Type 0 where
   pub reply : InFront (replyAfter (tableFound t x) (x .message) (length (x .buffer)) (fed t x .answer)) (x .buffer) (handledBy t x .buffer)
   pub none : handledBy t x .length ≡ 0 → handledBy t x .buffer ≡ x .buffer

@@ -84,10 +84,13 @@ pub record Cause (total : ℕ) (r : List Terms) (l : List Entry) (s : List ℕ) 
 abbrev pub ledgerFound : ℕ → List Entry → List Fed → Fed → List Entry
 ledgerFound total start h e = dropped (e .closings) (ledger total start h)
 
+abbrev pub sameClosing : Closing → Closing → Bool
+sameClosing c d = eqb (c .slot) (d .slot) && eqb (c .address) (d .address)
+
 -- what is said of the closings that an answer lists: each listed slot is that of one entry, whose sender is the address
 -- listed with it; slots rise, so that none is listed twice; and a message refused 2 lists none
 pub record ClosingsPromised (l : List Entry) (e : Fed) : Type 0 where
-  pub entered : (c : Closing) → has (λ d. eqb (c .slot) (d .slot) && eqb (c .address) (d .address)) (e .closings) ≡ true
+  pub entered : (c : Closing) → has (sameClosing c) (e .closings) ≡ true
       → (countIf (λ f. eqb (c .slot) (f .slot)) l ≡ 1) × (countIf (λ f. eqb (c .slot) (f .slot) && eqb (c .address) (f .ids .sender)) l ≡ 1)
   pub rising : Rising (e .closings)
   pub none : is 2 (e .answer) ≡ true → e .closings ≡ []
