@@ -1,6 +1,6 @@
 /* Chaffmoor: the call side of a light-path node. Link with target/staticlib/libchaffmoor.a (rt staticlib chaffmoor).
  *
- * Every byte string handed in gets an answer by number (docs/ANSWERS.md). The table is plain data of fixed size, 6,598
+ * Every byte string handed in gets an answer by number (docs/ANSWERS.md). The table is plain data of fixed size, 6,622
  * words of 32 bits. The caller owns it, lends it by pointer with each message and keeps it between messages; the node
  * changes it in place. Nothing is allocated, and nothing is kept inside the library.
  *
@@ -36,7 +36,7 @@ enum {
     CHAFFMOOR_CUSTOMERS = 8,   /* records of a roster */
     CHAFFMOOR_PLACES = 4,      /* connections under a call, and of Call ID 0 with a customer */
     CHAFFMOOR_NAME = 32,       /* bytes of a long Call ID */
-    CHAFFMOOR_WORDS = 6598,    /* words of a table */
+    CHAFFMOOR_WORDS = 6622,    /* words of a table */
     CHAFFMOOR_REPLY = 128      /* a reply buffer has to have this many bytes, or the answer is 2 */
 };
 
@@ -67,11 +67,16 @@ typedef struct {
 } chaffmoor_call;
 
 /* A record of the roster, with the customer's connections of Call ID 0; all zeros where it is not listed. The
- * connection in places[j] has the end point endpoints[j], and its sender is the customer. */
+ * connection in places[j] has the end point endpoints[j], and its sender is the customer. `kept` is 1 from the
+ * customer's first Notify that is answered 20 to 34 on, and then `epoch` and `identifier` are those of the last such
+ * one's MESSAGE_ID: a Notify of the same epoch that lies behind it is late, answer 16. Else all three are 0. */
 typedef struct {
     uint32_t address;
     uint32_t guarantee;        /* 0 to limit */
     uint32_t limit;            /* 1 to 64 under a roster of form 1, 1 to 200 under one of form 2 */
+    uint32_t kept;             /* 1 or 0 */
+    uint32_t epoch;            /* 24 bits */
+    uint32_t identifier;
     uint32_t endpoints[CHAFFMOOR_PLACES];
     chaffmoor_place places[CHAFFMOOR_PLACES];
 } chaffmoor_customer;
@@ -138,7 +143,7 @@ typedef struct {
 /* Reads a checkpoint of any bytes, with salvage where `salvage` is 1, plainly where it is any other number: 0, and the
  * table is the one restored; or the roster's 40 to 46, and it is the empty one; or 70, 71, 72, and it is the roster's
  * fresh one. What the table held before does not matter. Calls keep the refreshes of their records, and the table's
- * time is the latest of them, 0 where no call is restored. */
+ * time is the latest of them, 0 where no call is restored. No customer's MESSAGE_ID is kept: a checkpoint has none. */
 chaffmoor_checkpoint_read chaffmoor_read_checkpoint(chaffmoor_table *table, uint32_t salvage, const uint8_t *roster,
                                                     size_t roster_length, const uint8_t *checkpoint,
                                                     size_t checkpoint_length);
@@ -168,9 +173,12 @@ CHAFFMOOR_SIZE(chaffmoor_call, 128);
 CHAFFMOOR_AT(chaffmoor_customer, address, 0);
 CHAFFMOOR_AT(chaffmoor_customer, guarantee, 4);
 CHAFFMOOR_AT(chaffmoor_customer, limit, 8);
-CHAFFMOOR_AT(chaffmoor_customer, endpoints, 12);
-CHAFFMOOR_AT(chaffmoor_customer, places, 28);
-CHAFFMOOR_SIZE(chaffmoor_customer, 92);
+CHAFFMOOR_AT(chaffmoor_customer, kept, 12);
+CHAFFMOOR_AT(chaffmoor_customer, epoch, 16);
+CHAFFMOOR_AT(chaffmoor_customer, identifier, 20);
+CHAFFMOOR_AT(chaffmoor_customer, endpoints, 24);
+CHAFFMOOR_AT(chaffmoor_customer, places, 40);
+CHAFFMOOR_SIZE(chaffmoor_customer, 104);
 
 CHAFFMOOR_AT(chaffmoor_table, address, 0);
 CHAFFMOOR_AT(chaffmoor_table, epoch, 4);
@@ -180,8 +188,8 @@ CHAFFMOOR_AT(chaffmoor_table, listed, 16);
 CHAFFMOOR_AT(chaffmoor_table, form, 20);
 CHAFFMOOR_AT(chaffmoor_table, occupied, 24);
 CHAFFMOOR_AT(chaffmoor_table, customers, 56);
-CHAFFMOOR_AT(chaffmoor_table, calls, 792);
-CHAFFMOOR_SIZE(chaffmoor_table, 26392);
+CHAFFMOOR_AT(chaffmoor_table, calls, 888);
+CHAFFMOOR_SIZE(chaffmoor_table, 26488);
 _Static_assert(sizeof(chaffmoor_table) == 4 * CHAFFMOOR_WORDS, "a table is its words");
 _Static_assert(_Alignof(chaffmoor_table) == 4, "the alignment of a table");
 

@@ -1,4 +1,4 @@
-"""Rosters, messages, checkpoints and frames, built from the layouts of documents 01 and 02 (requests A7, A11 and A13).
+"""Rosters, messages, checkpoints and frames, built from the layouts of documents 01 and 02 (requests A7, A8, A11, A13).
 
 The node's own address is END; every message goes to it. An extended tunnel ID is the sender's address. A checkpoint's
 records can have others.
@@ -60,27 +60,30 @@ def template(sender, lsp):
     return obj(11, 7, address(sender) + struct.pack(">HH", 0, lsp))
 
 
-def notify(status, sender, call, name, identifier, *more):
-    """priorities 7 and 7, MESSAGE_ID epoch 3"""
+def notify(status, sender, call, name, epoch, identifier, *more):
+    """priorities 7 and 7"""
     padding = bytes(-len(name) % 4)
     return message(
         NOTIFY,
         session(sender, call, 0),
         obj(6, 1, bytes(8)),
         template(sender, 0),
-        obj(23, 1, struct.pack(">II", 3, identifier)),
+        obj(23, 1, struct.pack(">II", epoch, identifier)),
         obj(196, 1, struct.pack(">I", status)),
         obj(207, 7, bytes([7, 7, 0, len(name)]) + name + padding),
         *more,
     )
 
 
-def setup(sender, call, name, *more):
-    return notify(OPEN, sender, call, name, 1, *more)
+# A customer's setups come before its closes, unless an identifier says otherwise: what lies behind is late (A8).
 
 
-def close(sender, call, name):
-    return notify(CLOSE, sender, call, name, 2)
+def setup(sender, call, name, *more, epoch=3, identifier=1):
+    return notify(OPEN, sender, call, name, epoch, identifier, *more)
+
+
+def close(sender, call, name, epoch=3, identifier=2):
+    return notify(CLOSE, sender, call, name, epoch, identifier)
 
 
 def path(sender, call, tunnel, lsp=1):

@@ -41,49 +41,62 @@ impl Row {
     }
 }
 
-/// Retry, opening and closing, Path and PathTear, two refusals. A table of no calls has the one that a retry or a Path
+/// Retry, opening and closing, Path and PathTear, and refusals. A table of no calls has the one that a retry or a Path
 /// is about, and no other.
 pub fn rows(calls: Calls) -> Vec<Row> {
     let last = calls.last();
-    let with_last = calls.table_of(0..last + 1, 4);
-    let row = |what: &'static str, name: &str, none: &str, table: Table, messages: Vec<Due>| Row {
+    let open = calls.open(last);
+    let mut rows = vec![
+        row(
+            ("retry", "(a) retry 21"),
+            calls.name("1 call, the one retried"),
+            calls.table_of(0..last + 1, 4),
+            vec![(open.clone(), 21)],
+        ),
+        row(
+            ("open and close", "(b) open 20, close 22"),
+            calls.name("0 calls before and after"),
+            calls.table_before_last(),
+            vec![(open, 20), (calls.close(last), 22)],
+        ),
+        row(
+            ("Path and PathTear", "(c) Path 23, PathTear 25"),
+            calls.name("1 call, the one of the Path"),
+            calls.table_of(0..last + 1, 3),
+            vec![(calls.path(last, 3), 23), (calls.path_tear(last, 3), 25)],
+        ),
+    ];
+    rows.extend(refusals(calls));
+    rows
+}
+
+/// Of a cut message, of wrong padding, and of an overtaken close (A8).
+fn refusals(calls: Calls) -> [Row; 3] {
+    let (name, last) = (calls.name("0 calls"), calls.last());
+    let open = calls.open(last);
+    let (cut, padded, late) = (open[..7].to_vec(), wrong_padding(&open), calls.late_close(last));
+    let refused = |names, table, message, answer| row(names, name.clone(), table, vec![(message, answer)]);
+    [
+        refused(("refused at 3", "(d) refused at 3"), calls.table(), cut, 3),
+        refused(("refused at 9", "(d) refused at 9"), calls.table(), padded, 9),
+        refused(
+            ("refused at 16", "(d) refused at 16"),
+            calls.table_with_kept(),
+            late,
+            16,
+        ),
+    ]
+}
+
+fn row((what, name): (&'static str, &str), of_calls: String, table: Table, messages: Vec<Due>) -> Row {
+    Row {
         what,
-        name: format!("{name}, {}", calls.name(none)),
+        name: format!("{name}, {of_calls}"),
         table,
         messages,
         clock: Clock::ZERO,
         anew: false,
-    };
-    let open = calls.open(last);
-    let opened_and_closed = vec![(open.clone(), 20), (calls.close(last), 22)];
-    let added_and_removed = vec![(calls.path(last, 3), 23), (calls.path_tear(last, 3), 25)];
-    let (cut, padded) = (vec![(open[..7].to_vec(), 3)], vec![(wrong_padding(&open), 9)]);
-    let none = "0 calls";
-    vec![
-        row(
-            "retry",
-            "(a) retry 21",
-            "1 call, the one retried",
-            with_last,
-            vec![(open, 21)],
-        ),
-        row(
-            "open and close",
-            "(b) open 20, close 22",
-            "0 calls before and after",
-            calls.table_before_last(),
-            opened_and_closed,
-        ),
-        row(
-            "Path and PathTear",
-            "(c) Path 23, PathTear 25",
-            "1 call, the one of the Path",
-            calls.table_of(0..last + 1, 3),
-            added_and_removed,
-        ),
-        row("refused at 3", "(d) refused at 3", none, calls.table(), cut),
-        row("refused at 9", "(d) refused at 9", none, calls.table(), padded),
-    ]
+    }
 }
 
 /// A setup with a byte set in the padding behind its name.

@@ -1,10 +1,11 @@
 //! One input through both programs: answer, length, every byte of the buffer, every word of the table, the closings and
-//! the words behind them. Messages go through the yardstick as well, and what is closed before them is found a third
-//! time (`expiry`).
+//! the words behind them. Messages go through the yardstick as well; what is closed before them, whether
+//! they are late and what is kept of them is found a third time (`expiry`, `late`).
 
 use crate::difference;
 use crate::expiry;
 use crate::first;
+use crate::late;
 use crate::layout::{words, words_mut, Closings, Lent, LentRow, SLOTS};
 use crate::random::Random;
 use second::table::Table;
@@ -79,7 +80,7 @@ pub fn message(
     same_buffers(&one, &other, &old, length).map_err(place)?;
     same_tables(&table.table, &after).map_err(place)?;
     let behind = closed_before(tables.1, clock, answer, &closings).map_err(place)?;
-    expiry::check_change(answer, &behind, &after).map_err(place)?;
+    changed_as_due(&behind, message, buffer, answer, &after).map_err(place)?;
     let done = Done {
         answer,
         length,
@@ -108,6 +109,13 @@ fn closed_before(table: &Table, clock: Clock, answer: u8, closings: &[Closing]) 
         true => *table,
         false => expiry::behind(table, clock, &due),
     }))
+}
+
+/// What the message changed of the table behind the closings: what is kept (A8), and nothing else than may be.
+fn changed_as_due(behind: &Table, message: &[u8], buffer: usize, answer: u8, after: &Table) -> Result<(), String> {
+    let due = late::keeping(behind, message, buffer, answer)?;
+    late::check(&due, after)?;
+    expiry::check_change(answer, &due, after)
 }
 
 /// A row of any words.

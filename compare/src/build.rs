@@ -192,7 +192,12 @@ fn checksum(bytes: &[u8]) -> u16 {
 
 /// A Notify request that opens the call (end point, sender, short ID, name).
 pub fn open(endpoint: u32, sender: u32, call: u16, name: &[u8]) -> Vec<u8> {
-    request(endpoint, sender, call, name, R | C)
+    request((endpoint, sender), (call, name), R | C, NUMBERS)
+}
+
+/// The same with these two numbers in its MESSAGE_ID.
+pub fn open_numbered(endpoint: u32, sender: u32, call: u16, name: &[u8], numbers: (u32, u32)) -> Vec<u8> {
+    request((endpoint, sender), (call, name), R | C, numbers)
 }
 
 /// One without names, with these two numbers in its MESSAGE_ID (A6).
@@ -210,18 +215,31 @@ pub fn nameless(endpoint: u32, sender: u32, (epoch, identifier): (u32, u32)) -> 
 
 /// A Notify request that closes it.
 pub fn close(endpoint: u32, sender: u32, call: u16, name: &[u8]) -> Vec<u8> {
-    request(endpoint, sender, call, name, R | C | D)
+    request((endpoint, sender), (call, name), R | C | D, NUMBERS)
 }
 
-fn request(endpoint: u32, sender: u32, call: u16, name: &[u8], status: u32) -> Vec<u8> {
+/// The same with these two numbers in its MESSAGE_ID.
+pub fn close_numbered(endpoint: u32, sender: u32, call: u16, name: &[u8], numbers: (u32, u32)) -> Vec<u8> {
+    request((endpoint, sender), (call, name), R | C | D, numbers)
+}
+
+/// The numbers of requests that are given none: no one of them is late behind another (A8).
+pub const NUMBERS: (u32, u32) = (9, 77);
+
+fn request(
+    (endpoint, sender): (u32, u32),
+    (call, name): (u16, &[u8]),
+    status: u32,
+    (epoch, identifier): (u32, u32),
+) -> Vec<u8> {
     let fields = Fields {
         endpoint,
         sender,
         call,
         name: name.to_vec(),
         status,
-        epoch: 9,
-        identifier: 77,
+        epoch,
+        identifier,
         ..Fields::default()
     };
     message(Header::of(NOTIFY), &fields.request(), Sum::Right)

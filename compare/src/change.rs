@@ -7,7 +7,7 @@ use second::table::{Call, Customer, Place, Table};
 
 pub fn one_field(table: &mut Table, random: &mut Random) {
     let (customers, calls, time) = (table.customers, table.calls, table.time);
-    match random.below(18) {
+    match random.below(20) {
         0 => number(&mut table.listed, &[8, 9], random),
         1 => number(&mut table.epoch, &[1 << 24], random),
         2 => number(&mut table.address, &[], random),
@@ -18,7 +18,7 @@ pub fn one_field(table: &mut Table, random: &mut Random) {
             let refreshed = calls.map(|call| call.refreshed);
             number(&mut table.time, &refreshed, random);
         }
-        6..=9 => {
+        6..=9 | 18..=19 => {
             let listed = (table.listed as usize).clamp(1, 8);
             let end = *random.pick(&[listed, 8]);
             let place = random.below(end);
@@ -34,12 +34,16 @@ pub fn one_field(table: &mut Table, random: &mut Random) {
 
 fn of_customer(customer: &mut Customer, other: &Customer, random: &mut Random) {
     let place = random.below(4);
-    match random.below(6) {
+    match random.below(10) {
         0 => number(&mut customer.address, &[other.address], random),
         1 => number(&mut customer.guarantee, &[other.guarantee, customer.limit], random),
         2 => number(&mut customer.limit, &[other.limit, customer.guarantee, 64, 200], random),
         3 => number(&mut customer.endpoints[place], &other.endpoints, random),
-        4 => {
+        4 => number(&mut customer.kept, &[1, 2], random),
+        5 => number(&mut customer.epoch, &[1 << 24, other.epoch], random),
+        6 => number(&mut customer.identifier, &[1 << 31, other.identifier], random),
+        7 => (customer.kept, customer.epoch, customer.identifier) = (other.kept, other.epoch, other.identifier),
+        8 => {
             let from = random.below(4);
             customer.places[place] = other.places[from];
             customer.endpoints[place] = other.endpoints[from];

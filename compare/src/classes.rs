@@ -182,7 +182,7 @@ fn everywhere(extra: &Extra, tables: &Tables, random: &mut Random, tally: &mut T
 /// Both programs, and the ledger's reader: its fault, 0 where it finds none and the answer is the message's own.
 fn compare(tables: &Tables, message: &[u8], own: u8, random: &mut Random, tally: &mut Tally) -> Result<u8, String> {
     let done = both::message((&tables.first, &tables.second), message, Clock::ZERO, BUFFER, random)?;
-    let (fault, due) = match form::read(message, BUFFER, &[SENDER]) {
+    let (fault, due) = match form::read(message, BUFFER, &[SENDER], |_| None) {
         Form::Fault(fault) => (fault, fault),
         _ => (0, own),
     };

@@ -3,10 +3,11 @@
 use crate::both::Done;
 use crate::build::D;
 use crate::coverage_expiry;
+use crate::coverage_late;
 use crate::coverage_nameless;
 use crate::form::{self, long_id};
 use crate::layout::SLOTS;
-use crate::ledger::Seen;
+use crate::ledger::{Heard, Seen};
 use crate::made;
 use crate::rosters::Shape;
 use crate::source::Made;
@@ -106,8 +107,8 @@ pub fn situations() -> Vec<&'static str> {
     let far = FAR_SLOTS.iter().map(|line| line.1);
     let others = OTHERS.iter().chain(coverage_nameless::SITUATIONS).copied();
     let nearly = made::NEARLY.iter().map(|line| line.0);
-    let expiry = coverage_expiry::situations();
-    shares.chain(far).chain(others).chain(nearly).chain(expiry).collect()
+    let later = coverage_expiry::situations().chain(coverage_late::situations());
+    shares.chain(far).chain(others).chain(nearly).chain(later).collect()
 }
 
 const OTHERS: &[&str] = &[
@@ -167,6 +168,8 @@ pub struct Step<'a> {
     pub done: &'a Done,
     /// What the ledger says, and its calls behind the closings; none where the stream has no ledger.
     pub seen: Option<(Seen, usize)>,
+    /// The ledger's list of Notifies before this message (A8).
+    pub heard: &'a [Heard],
 }
 
 impl Step<'_> {
@@ -187,6 +190,7 @@ pub fn note(step: &Step, tally: &mut Tally) {
     limits(step, tally);
     coverage_expiry::note(step, tally);
     if step.made.whole {
+        coverage_late::note(step, tally);
         far_slot(step, tally);
         coverage_nameless::note(step, tally);
         match step.done.answer {

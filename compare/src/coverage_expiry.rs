@@ -11,7 +11,7 @@ use crate::tally::Tally;
 use second::table::{Call, Table};
 
 /// Every answer that a closing can come before.
-const BEHIND: [(u8, &str); 26] = [
+const BEHIND: [(u8, &str); 27] = [
     (3, "closing, then 3"),
     (4, "closing, then 4"),
     (5, "closing, then 5"),
@@ -25,6 +25,7 @@ const BEHIND: [(u8, &str); 26] = [
     (13, "closing, then 13"),
     (14, "closing, then 14"),
     (15, "closing, then 15"),
+    (16, "closing, then 16"),
     (20, "closing, then 20"),
     (21, "closing, then 21"),
     (22, "closing, then 22"),

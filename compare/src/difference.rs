@@ -26,6 +26,9 @@ fn of_customers(first: &Customer, second: &Customer) -> Option<String> {
     differ("address", &first.address, &second.address)
         .or_else(|| differ("guarantee", &first.guarantee, &second.guarantee))
         .or_else(|| differ("limit", &first.limit, &second.limit))
+        .or_else(|| differ("kept", &first.kept, &second.kept))
+        .or_else(|| differ("epoch", &first.epoch, &second.epoch))
+        .or_else(|| differ("identifier", &first.identifier, &second.identifier))
         .or_else(|| differ("endpoints", &first.endpoints, &second.endpoints))
         .or_else(|| each("places", &first.places, &second.places, of_places))
 }

@@ -57,9 +57,10 @@ pub fn behind(table: &Table, clock: Clock, closings: &[Closing]) -> Table {
     behind
 }
 
-/// What a message may change of the table behind the closings, which for answers 1 and 2 is the one handed in: the own
-/// identifier with a Notify; nothing else but with 20, 22, 23 and 25; and with 21 one call's refresh, to the time.
-/// No other answer refreshes a call that stays, and a new one is refreshed at the time.
+/// What a message may change of the table behind the closings, which for answers 1 and 2 is the one handed in, once
+/// what is kept of it (A8) has been put there: the own identifier with a Notify; nothing else but with 20, 22, 23 and
+/// 25; and with 21 one call's refresh, to the time. No other answer refreshes a call that stays, and a new one is
+/// refreshed at the time.
 pub fn check_change(answer: u8, behind: &Table, after: &Table) -> Result<(), String> {
     let mut due = *behind;
     let sends = matches!(answer, 20..=22 | 30..=34);

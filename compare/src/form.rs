@@ -1,11 +1,13 @@
-//! The ledger's own reader (01, "Every answer", and 02's A1 and A6): the tests for the answers 2 to 13, on the message's
-//! bytes, the buffer's length and the roster's addresses; and a roster's answer. It is a third reading, used by neither
-//! program.
+//! The ledger's own reader (01, "Every answer", and 02's A1, A6 and A8): the tests for the answers 2 to 13 and 16, on
+//! the message's bytes, the buffer's length, the roster's addresses and the last MESSAGE_IDs; and a roster's answer. It
+//! is a third reading, used by neither program.
+
+use crate::late::{is_late, Numbers};
 
 /// What a message is to the ledger.
 #[derive(Debug, PartialEq, Eq)]
 pub enum Form<'a> {
-    /// The fault of form, 2 to 13.
+    /// The fault of form, 2 to 13 or 16.
     Fault(u8),
     /// A Notify without one.
     Notify(Request<'a>),
@@ -24,7 +26,7 @@ pub struct Request<'a> {
     /// Name Length as received, counted padding included.
     pub size: usize,
     /// Epoch and identifier.
-    pub numbers: (u32, u32),
+    pub numbers: Numbers,
     pub closes: bool,
 }
 
@@ -49,13 +51,18 @@ pub const SKIPPED: [u8; 16] = [0, 3, 4, 5, 12, 13, 14, 19, 20, 21, 24, 34, 35, 3
 /// The bodies found of each object.
 type Found<'a> = [Vec<&'a [u8]>; 6];
 
-pub fn read<'a>(message: &'a [u8], buffer: usize, listed: &[u32]) -> Form<'a> {
+/// `last` says which MESSAGE_ID was accepted last of a sender (A8).
+pub fn read<'a>(message: &'a [u8], buffer: usize, listed: &[u32], last: impl Fn(u32) -> Option<Numbers>) -> Form<'a> {
     match tested(message, buffer, listed) {
+        Ok(Form::Notify(request)) if last(request.sender).is_some_and(|old| is_late(old, request.numbers)) => {
+            Form::Fault(16)
+        }
         Ok(form) => form,
         Err(fault) => Form::Fault(fault),
     }
 }
 
+/// All tests but the one for lateness, which is the last.
 fn tested<'a>(message: &'a [u8], buffer: usize, listed: &[u32]) -> Result<Form<'a>, u8> {
     if buffer < 128 {
         return Err(2);

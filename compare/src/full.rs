@@ -59,9 +59,10 @@ fn fill(tables: &mut Tables, sender: u32, calls: u16, random: &mut Random) -> Re
             let short = [call as u8];
             let name = if call == 1 { &long[..] } else { &short };
             // All lower numbers are in use, so that a nameless one gets this one.
+            let numbers = (9, call.into());
             let open = match call % 3 {
-                0 => build::nameless(ENDPOINT, sender, (9, call.into())),
-                _ => build::open(ENDPOINT, sender, call, name),
+                0 => build::nameless(ENDPOINT, sender, numbers),
+                _ => build::open_numbered(ENDPOINT, sender, call, name, numbers),
             };
             send(tables, later(tables, random), &open, 20, random)?;
         }

@@ -1,21 +1,21 @@
 //! The table by its words, numbered as the papers number them: which field each word is, and how a table is lent.
 //!
-//! A head of 14 words, then 8 customers of 23 from word 14, then 200 calls of 32 from word 198.
+//! A head of 14 words, then 8 customers of 26 from word 14, then 200 calls of 32 from word 222.
 
 pub use second::table::{Call, Customer, Place, Table};
 pub use second::Closing;
 use std::mem::{align_of, offset_of, size_of};
 
 /// Words of a table.
-pub const WORDS: usize = 6598;
+pub const WORDS: usize = 6622;
 
 pub type Words = [u32; WORDS];
 
 /// Where the occupied bits, the customers and the calls begin, and how many words each of them has.
 const OCCUPIED: usize = 6;
 pub const CUSTOMERS: usize = 14;
-pub const CUSTOMER: usize = 23;
-pub const CALLS: usize = 198;
+pub const CUSTOMER: usize = 26;
+pub const CALLS: usize = 222;
 pub const CALL: usize = 32;
 
 /// Slots of a table, whatever its roster's total.
@@ -35,8 +35,9 @@ const _: () = assert!(offset_of!(Call, identifier) == 16 && offset_of!(Call, id)
 const _: () = assert!(offset_of!(Call, made) == 24 && offset_of!(Call, size) == 28);
 const _: () = assert!(offset_of!(Call, name) == 32 && offset_of!(Call, places) == 64);
 const _: () = assert!(offset_of!(Customer, address) == 0 && offset_of!(Customer, guarantee) == 4);
-const _: () = assert!(offset_of!(Customer, limit) == 8 && offset_of!(Customer, endpoints) == 12);
-const _: () = assert!(offset_of!(Customer, places) == 28);
+const _: () = assert!(offset_of!(Customer, limit) == 8 && offset_of!(Customer, kept) == 12);
+const _: () = assert!(offset_of!(Customer, epoch) == 16 && offset_of!(Customer, identifier) == 20);
+const _: () = assert!(offset_of!(Customer, endpoints) == 24 && offset_of!(Customer, places) == 40);
 const _: () = assert!(offset_of!(Table, address) == 0 && offset_of!(Table, epoch) == 4);
 const _: () = assert!(offset_of!(Table, next) == 8 && offset_of!(Table, time) == 12);
 const _: () = assert!(offset_of!(Table, listed) == 16 && offset_of!(Table, form) == 20);
@@ -66,6 +67,9 @@ pub enum OfCustomer {
     Address,
     Guarantee,
     Limit,
+    Kept,
+    Epoch,
+    Identifier,
     EndPoint(usize),
     Place(usize, OfPlace),
 }
@@ -119,8 +123,11 @@ fn of_customer(at: usize) -> OfCustomer {
         0 => OfCustomer::Address,
         1 => OfCustomer::Guarantee,
         2 => OfCustomer::Limit,
-        3..7 => OfCustomer::EndPoint(at - 3),
-        _ => OfCustomer::Place((at - 7) / 4, of_place((at - 7) % 4)),
+        3 => OfCustomer::Kept,
+        4 => OfCustomer::Epoch,
+        5 => OfCustomer::Identifier,
+        6..10 => OfCustomer::EndPoint(at - 6),
+        _ => OfCustomer::Place((at - 10) / 4, of_place((at - 10) % 4)),
     }
 }
 
@@ -252,6 +259,9 @@ mod tests {
                         OfCustomer::Address => customer.address,
                         OfCustomer::Guarantee => customer.guarantee,
                         OfCustomer::Limit => customer.limit,
+                        OfCustomer::Kept => customer.kept,
+                        OfCustomer::Epoch => customer.epoch,
+                        OfCustomer::Identifier => customer.identifier,
                         OfCustomer::EndPoint(n) => customer.endpoints[n],
                         OfCustomer::Place(n, of) => place(&customer.places[n], of),
                     }
@@ -287,12 +297,14 @@ mod tests {
             (field(3), field(5), field(6), field(13)),
             (Field::Time, Field::Form, Field::Occupied(0), Field::Occupied(7))
         );
-        assert_eq!(field(14 + 23 * 7 + 3), Field::Customer(7, OfCustomer::EndPoint(0)));
+        assert_eq!(field(14 + 26 * 7 + 3), Field::Customer(7, OfCustomer::Kept));
+        assert_eq!(field(14 + 26 * 7 + 5), Field::Customer(7, OfCustomer::Identifier));
+        assert_eq!(field(14 + 26 * 7 + 6), Field::Customer(7, OfCustomer::EndPoint(0)));
         assert_eq!(
-            field(14 + 23 * 7 + 22),
+            field(14 + 26 * 7 + 25),
             Field::Customer(7, OfCustomer::Place(3, OfPlace::Lsp))
         );
-        assert_eq!(field(198), Field::Call(0, OfCall::EndPoint));
+        assert_eq!(field(222), Field::Call(0, OfCall::EndPoint));
         assert_eq!(field(WORDS - 1), Field::Call(199, OfCall::Place(3, OfPlace::Lsp)));
     }
 }

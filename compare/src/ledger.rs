@@ -1,9 +1,11 @@
 //! The ledger behind demand 3 (01), a third time. It is fed the roster's bytes and each message with its answer, the
 //! calls closed before it and what else the caller hands in, never the table, and says which sentence of demand 3 does
 //! not hold. The IDs of a call that came without names it makes from its own entries (A6). Whether a call was due to be
-//! closed it does not judge: it knows no connections (A7).
+//! closed it does not judge: it knows no connections (A7). Whether a Notify is late it reads from its list of those
+//! before it (A8).
 
 use crate::form::{self, Form, Request};
+use crate::late::Numbers;
 use crate::made::{self, Ids};
 use second::{Clock, Closing};
 
@@ -42,6 +44,21 @@ pub struct Restored {
     pub made_by: Option<(u32, u32)>,
 }
 
+/// A Notify that it was fed, read as an open or a close, and its answer.
+#[derive(Clone, Copy, Debug)]
+pub struct Heard {
+    pub sender: u32,
+    pub numbers: Numbers,
+    pub answer: u8,
+}
+
+impl Heard {
+    /// A8: only these answers keep a MESSAGE_ID.
+    pub fn is_accepted(&self) -> bool {
+        (20..=34).contains(&self.answer)
+    }
+}
+
 /// What the ledger is fed of a message.
 pub struct Fed<'a> {
     pub message: &'a [u8],
@@ -57,6 +74,8 @@ pub struct Ledger {
     customers: Vec<Customer>,
     addresses: Vec<u32>,
     entries: Vec<Entry>,
+    /// The Notifies without a fault of form, in their order (A8).
+    heard: Vec<Heard>,
     /// Made calls that were closed, by pair and numbers: for the situations only.
     gone: Vec<(u32, u32, (u32, u32))>,
 }
@@ -181,6 +200,7 @@ impl Ledger {
             addresses: customers.iter().map(|customer| customer.address).collect(),
             customers,
             entries: Vec::new(),
+            heard: Vec::new(),
             gone: Vec::new(),
         }
     }
@@ -203,14 +223,31 @@ impl Ledger {
             return Err("answer 1 to a table that only the program changed".into());
         }
         self.drop_closed(fed)?;
-        let form = form::read(fed.message, fed.buffer, &self.addresses);
+        let form = form::read(fed.message, fed.buffer, &self.addresses, |sender| self.last(sender));
         let mut seen = self.check_setup(&form, answer)?;
         if let Form::Notify(request) = &form {
             seen.sizes = self.sizes(request);
+            self.heard.push(Heard {
+                sender: request.sender,
+                numbers: request.numbers,
+                answer,
+            });
         }
         self.book(&form, answer, &seen)?;
         self.check_counts()?;
         Ok(seen)
+    }
+
+    /// A8: the MESSAGE_ID of the latest Notify of this sender that was answered 20 to 34.
+    fn last(&self, sender: u32) -> Option<Numbers> {
+        let mut latest_first = self.heard.iter().rev();
+        let last = latest_first.find(|one| one.sender == sender && one.is_accepted());
+        last.map(|one| one.numbers)
+    }
+
+    /// The Notifies so far that had no fault of form.
+    pub fn heard(&self) -> &[Heard] {
+        &self.heard
     }
 
     /// Drops the entries whose slots are listed. Each slot is that of one entry, whose sender is the address beside it;
@@ -405,7 +442,7 @@ impl Ledger {
 #[cfg(test)]
 mod tests {
     use super::*;
-    use crate::build::{close, nameless, open, path, Connection, Record, Roster};
+    use crate::build::{close, close_numbered, nameless, open, open_numbered, path, Connection, Record, Roster};
 
     const X: u32 = 0x0a00_0001;
     const Y: u32 = 0x0a00_0003;
@@ -533,6 +570,43 @@ mod tests {
         assert!(lapses(&mut ledger, &[(0, X), (1, Y)]) && ledger.calls() == 0);
     }
 
+    /// A8, from the list: the same epoch, behind the last of that sender that was answered 20 to 34.
+    #[test]
+    fn late_messages() {
+        let open = |numbers| open_numbered(9, X, 1, b"a", numbers);
+        let close = |numbers| close_numbered(9, X, 1, b"a", numbers);
+        let mut ledger = two();
+        assert!(feeds(&mut ledger, &open((3, 7)), 20));
+        for answer in [22, 32, 33] {
+            assert!(!feeds(&mut ledger, &close((3, 6)), answer));
+        }
+        for (message, answer) in [
+            (close((3, 6)), 16),
+            (close_numbered(9, X, 0, b"a", (3, 6)), 13),
+            (close_numbered(9, 5, 1, b"a", (3, 6)), 11),
+            // Another customer's is no matter of X's.
+            (open_numbered(9, Y, 1, b"a", (3, 9)), 20),
+            (open((3, 7)), 21),
+            // 2^31 is not behind, in either direction.
+            (open_numbered(9, X, 1, b"b", (3, 7 + (1 << 31))), 30),
+            (open((3, 7)), 21),
+            (close_numbered(9, X, 2, b"c", (4, 1)), 33),
+            (close((4, 0)), 16),
+            (close((4, u32::MAX)), 16),
+            (close((3, 0)), 22),
+            (nameless(9, X, (3, u32::MAX)), 16),
+        ] {
+            assert!(feeds(&mut ledger, &message, answer));
+        }
+        for answer in [13, 20, 21, 30, 31, 34] {
+            assert!(!feeds(&mut ledger, &nameless(9, X, (3, u32::MAX)), answer));
+        }
+        // Not late, and called so to get out of opening it.
+        for message in [nameless(9, X, (3, 0)), open((3, 1)), open((2, 0)), open((3, 1 << 31))] {
+            assert!(!feeds(&mut ledger, &message, 16));
+        }
+    }
+
     /// Only the one answer that is due passes, in every state of 01's example.
     #[test]
     fn only_what_is_due_passes() {
@@ -644,8 +718,8 @@ mod tests {
         let mut ledger = two();
         assert!(feeds(&mut ledger, &open(9, X, 1, b"a"), 20));
         assert!(feeds(&mut ledger, &nameless(9, X, (0, 0)), 20));
-        assert!(feeds(&mut ledger, &nameless(9, X, (0, 1)), 34));
         assert!(feeds(&mut ledger, &nameless(9, X, (0, 0)), 21));
+        assert!(feeds(&mut ledger, &nameless(9, X, (0, 1)), 34));
     }
 
     #[test]

@@ -5,6 +5,7 @@ use crate::breaks::tools::*;
 use crate::breaks::Break;
 use crate::form;
 use crate::layout::SLOTS;
+use crate::near_kept;
 use crate::near_made;
 use crate::near_refreshed;
 use crate::random::Random;
@@ -54,7 +55,7 @@ const NEAR_MISSES: &[(&str, Break)] = &[
 /// Every near miss, with its name.
 pub fn all() -> impl Iterator<Item = &'static (&'static str, Break)> {
     let later = near_made::NEAR_MISSES.iter().chain(near_refreshed::NEAR_MISSES);
-    NEAR_MISSES.iter().chain(later)
+    NEAR_MISSES.iter().chain(later).chain(near_kept::NEAR_MISSES)
 }
 
 /// The second call gets the first one's IDs, at an end point that no call has.

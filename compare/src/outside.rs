@@ -5,7 +5,7 @@ use crate::layout::{
 };
 use crate::random::Random;
 use crate::tables::{is_taken, is_used, total, used};
-use second::table::{Call, Place, Table};
+use second::table::{Call, Customer, Place, Table};
 
 /// What every word is set to, besides each of its bits turned over.
 pub const VALUES: [u32; 27] = [
@@ -51,6 +51,11 @@ pub const REFUSED: &[&str] = &[
     "word: occupied bits outside the total",
     "word: guarantee above the limit",
     "word: limit 0 or above the total",
+    "word: customer's kept mark above 1",
+    "word: customer's kept mark 0 over numbers",
+    "word: epoch where none is kept",
+    "word: identifier where none is kept",
+    "word: kept epoch above 24 bits",
     "word: time before a call's refresh",
     "word: call's refresh after the time",
     "word: unmarked call's request epoch",
@@ -86,6 +91,7 @@ pub const KEPT: &[&str] = &[
     "word: any next identifier",
     "word: any time from the latest refresh on",
     "word: any refresh up to the time",
+    "word: kept mark over zeros, or any numbers kept",
 ];
 
 /// What is due to a table with one word changed.
@@ -127,6 +133,9 @@ pub fn change(table: &Table, word: usize, value: u32) -> Option<Changed> {
     })
 }
 
+/// The word of a customer's record that says whether a MESSAGE_ID is kept.
+const KEPT_MARK: usize = 3;
+
 /// A word of a call gets one of so many values at a time, for there are many calls with the same words.
 const PART: usize = 4;
 
@@ -153,7 +162,11 @@ pub fn some_word(table: &Table, random: &mut Random) -> Option<Changed> {
         let used = used(table);
         word = match random.below(4) {
             0 => random.below(CUSTOMERS),
-            1 if table.listed > 0 => CUSTOMERS + random.below(CUSTOMER * table.listed as usize),
+            1 if table.listed > 0 => {
+                // What is kept (A8) comes more often: few values of the mark are good for anything.
+                let (record, any) = (random.below(table.listed as usize), random.below(CUSTOMER));
+                CUSTOMERS + CUSTOMER * record + *random.pick(&[any, any, any, KEPT_MARK])
+            }
             _ if !used.is_empty() => CALLS + CALL * random.pick(&used) + random.below(CALL),
             _ => word,
         };
@@ -211,6 +224,7 @@ fn due_of_customer(table: &Table, customer: usize, of: OfCustomer, value: u32) -
         OfCustomer::Address => Open,
         OfCustomer::Guarantee => when(value > customer.limit, "word: guarantee above the limit"),
         OfCustomer::Limit => when(value == 0 || value > total, "word: limit 0 or above the total"),
+        OfCustomer::Kept | OfCustomer::Epoch | OfCustomer::Identifier => due_of_kept(customer, of, value),
         OfCustomer::EndPoint(n) => when(!is_taken(&customer.places[n]), "word: customer's free place, end point"),
         OfCustomer::Place(n, of) => {
             let reasons = [
@@ -255,6 +269,19 @@ fn due_of_call(table: &Table, slot: usize, of: OfCall, value: u32) -> Due {
             ];
             due_of_place(&call.places[n], 0, of, value, reasons)
         }
+    }
+}
+
+/// A8: the mark and the numbers of a customer's last MESSAGE_ID. Nothing else of the table has a say.
+fn due_of_kept(customer: &Customer, of: OfCustomer, value: u32) -> Due {
+    let zeros = (customer.epoch, customer.identifier) == (0, 0);
+    match (of, customer.kept) {
+        (OfCustomer::Epoch, 0) => Refused("word: epoch where none is kept"),
+        (OfCustomer::Identifier, 0) => Refused("word: identifier where none is kept"),
+        (OfCustomer::Epoch, _) if value >= 1 << 24 => Refused("word: kept epoch above 24 bits"),
+        (OfCustomer::Kept, _) if value > 1 => Refused("word: customer's kept mark above 1"),
+        (OfCustomer::Kept, _) if !zeros => Refused("word: customer's kept mark 0 over numbers"),
+        _ => Kept("word: kept mark over zeros, or any numbers kept"),
     }
 }
 
@@ -303,6 +330,11 @@ mod tests {
         }
     }
 
+    #[test]
+    fn the_kept_mark() {
+        assert_eq!(field(CUSTOMERS + KEPT_MARK), Field::Customer(0, OfCustomer::Kept));
+    }
+
     /// Each field of a call gets each value, in some slot.
     #[test]
     fn no_value_is_left_out() {
@@ -330,6 +362,9 @@ mod tests {
             extended: 1,
             lsp: 1,
         };
+        // Kept over numbers, over zeros, and none kept.
+        (table.customers[1].kept, table.customers[1].epoch) = (1, 7);
+        table.customers[2].kept = 1;
         for call in &mut table.calls[..2] {
             (call.size, call.name[4], call.refreshed) = (5, 1, 9);
         }

@@ -33,6 +33,10 @@ const AGED: u64 = 440;
 const SWEPT_STREAMS: u64 = 4 << 32;
 const SWEPT: u64 = 1000;
 
+/// Numbers of the streams whose messages overtake each other (A8), and how many there are, by turns of both forms.
+const OVERTAKEN_STREAMS: u64 = 5 << 32;
+const OVERTAKEN: u64 = 250;
+
 /// How many full tables, by turns of form 1 and 2, are broken in every way.
 const FULL_TABLES: usize = 120;
 
@@ -43,6 +47,7 @@ pub fn all(seed: u64, messages: u64, captured: Option<&str>) -> Result<Tally, St
     streams(seed, messages, &mut tally)?;
     crowds(seed, &mut tally)?;
     expiring(seed, &mut tally)?;
+    overtaken(seed, OVERTAKEN, &mut tally)?;
     classes::run(0..=u8::MAX, &mut Random::of_part(seed, u64::MAX - 1), &mut tally)
         .map_err(|what| format!("seed {seed}, {what}"))?;
     full_tables(seed, &mut random, &mut tally)?;
@@ -170,9 +175,36 @@ fn expiring(seed: u64, tally: &mut Tally) -> Result<(), String> {
     Ok(())
 }
 
+/// Messages that arrive out of order (A8).
+fn overtaken(seed: u64, streams: u64, tally: &mut Tally) -> Result<(), String> {
+    for number in 0..streams {
+        let mut stream = Stream::overtaken(seed, OVERTAKEN_STREAMS + number, tally)?;
+        match number % 10 {
+            0 => stream.run(Stream::OVERTAKEN, tally)?,
+            _ => stream.run_messages(Stream::OVERTAKEN, tally)?,
+        }
+    }
+    Ok(())
+}
+
 #[cfg(test)]
-mod tests {
+pub(crate) mod tests {
     use super::*;
+
+    /// Streams of each kind that late messages come in (A8), a few of each.
+    #[cfg(feature = "stand_in")]
+    pub(crate) fn short_run() -> Result<(), String> {
+        let mut tally = Tally::new(&situations(), &names(breaks::all()), &names(near::all()));
+        overtaken(1, 30, &mut tally)?;
+        streams(1, 6000, &mut tally)
+    }
+
+    /// None is found where there is none.
+    #[cfg(feature = "stand_in")]
+    #[test]
+    fn a_short_run_of_overtaking() {
+        short_run().unwrap();
+    }
 
     /// With the second program in the first one's place it is the yardstick that is tried.
     #[test]

@@ -5,6 +5,7 @@ use crate::checksums;
 use crate::damage;
 use crate::encode;
 use crate::intent::{self, Intent, Mode};
+use crate::numbering::{self, Numbering};
 use crate::random::Random;
 use crate::tables;
 use crate::tally::Tally;
@@ -24,6 +25,18 @@ pub struct Made {
     pub torn: bool,
 }
 
+impl Made {
+    fn of(bytes: Vec<u8>, fields: Fields, whole: bool) -> Made {
+        Made {
+            bytes,
+            fields,
+            whole,
+            again: false,
+            torn: false,
+        }
+    }
+}
+
 /// A nameless request of these fields' pair (A6), with any numbers.
 pub fn nameless(fields: &Fields, random: &mut Random) -> Made {
     let mut fields = Fields {
@@ -38,13 +51,8 @@ pub fn nameless(fields: &Fields, random: &mut Random) -> Made {
 
 /// A message of these fields, nothing of it damaged.
 fn whole(kind: u8, fields: Fields, random: &mut Random) -> Made {
-    Made {
-        bytes: encode::message(kind, fields.clone(), random),
-        fields,
-        whole: true,
-        again: false,
-        torn: false,
-    }
+    let bytes = encode::message(kind, fields.clone(), random);
+    Made::of(bytes, fields, true)
 }
 
 /// A message about a call that may be closed before it (A7): its retry, a setup with one of its IDs, its close, or a Path
@@ -83,19 +91,32 @@ pub fn message(
     random: &mut Random,
     tally: &mut Tally,
 ) -> Made {
+    let mut by_table = |fields: &mut Fields, random: &mut Random| numbering::by_table(fields, table, random);
+    numbered(mode, trouble, values, table, random, tally, &mut by_table)
+}
+
+/// The same with other numbers in its MESSAGE_ID.
+pub fn numbered(
+    mode: Mode,
+    trouble: usize,
+    values: &Values,
+    table: &Table,
+    random: &mut Random,
+    tally: &mut Tally,
+    numbering: Numbering,
+) -> Made {
     let intent = random.weighted(mode);
     let (kind, mut fields) = intent::fields(intent, values, table, random);
+    if !numbering::is_bound(intent) {
+        numbering(&mut fields, random);
+    }
+    if kind != NOTIFY && random.chance(1, 3) {
+        numbering::make_old(&mut fields, table, random);
+    }
     let troubled = random.chance(trouble, 100);
     if troubled && random.chance(1, 8) {
         tally.damage("random bytes");
-        let bytes = random_bytes(random);
-        return Made {
-            bytes,
-            fields,
-            whole: false,
-            again: false,
-            torn: false,
-        };
+        return Made::of(random_bytes(random), fields, false);
     }
     let (fault, damage) = *random.pick(&[(true, false), (false, true), (true, true)]);
     if troubled && fault {
@@ -109,13 +130,7 @@ pub fn message(
         force_checksums(&mut bytes, table, random);
     }
     tally.intent(intent);
-    Made {
-        bytes,
-        fields,
-        whole: !damaged,
-        again: false,
-        torn: false,
-    }
+    Made::of(bytes, fields, !damaged)
 }
 
 /// One message in sixty gets the checksum FFFF, and two get a reply with it.

@@ -3,6 +3,10 @@
 #[cfg(test)]
 use crate::damage;
 use crate::first::{CheckpointRead, CheckpointWritten, MessageReply};
+#[cfg(test)]
+use crate::planted::{self, handled};
+#[cfg(not(test))]
+use second::handle as handled;
 use second::table::Table;
 use second::{Clock, Closing};
 #[cfg(test)]
@@ -66,7 +70,7 @@ unsafe extern "C" fn chaffmoor_handle(
         };
     }
     let reply = slice::from_raw_parts_mut(reply, reply_length);
-    let (answered, after) = second::handle(&*table, Clock { time, period }, message, reply);
+    let (answered, after) = handled(&*table, Clock { time, period }, message, reply);
     *table = after;
     let closed = answered.closings.len();
     slice::from_raw_parts_mut(closings, closed).copy_from_slice(&answered.closings);
@@ -85,6 +89,8 @@ unsafe extern "C" fn chaffmoor_write_checkpoint(
     checkpoint: *mut u8,
     length: usize,
 ) -> CheckpointWritten {
+    #[cfg(test)]
+    planted::note_written(&*table);
     let (answer, length) = second::write_checkpoint(&*table, slice::from_raw_parts_mut(checkpoint, length));
     CheckpointWritten { answer, length }
 }
@@ -103,6 +109,8 @@ unsafe extern "C" fn chaffmoor_read_checkpoint(
     let roster = slice::from_raw_parts(roster, roster_length);
     let checkpoint = slice::from_raw_parts(checkpoint, checkpoint_length);
     let (answer, read, calls, connections) = second::read_checkpoint(salvage == 1, roster, checkpoint);
+    #[cfg(test)]
+    let read = planted::restored(read);
     *table = read;
     CheckpointRead {
         answer,

@@ -2,7 +2,7 @@
 //! points on the way the table reached is broken in every way that a rule names, nearly broken, and changed at random.
 
 use crate::both;
-use crate::build::Roster;
+use crate::build::{Fields, Roster};
 use crate::checkpoints::parts::Parts;
 use crate::checkpoints::{self, expected};
 use crate::clock::{self, Habit};
@@ -14,13 +14,14 @@ use crate::intent::{Mode, CHURN, CROWD, FILL, FILL_NAMELESS, FILL_SOON, MODES};
 use crate::layout::SLOTS;
 use crate::ledger::{Fed, Ledger, Restored, Seen};
 use crate::made;
+use crate::numbering::Transit;
 use crate::random::Random;
 use crate::restored::{self, CROWDS};
 use crate::rosters::{self, Shape, ACCEPTABLE, SHAPES};
 use crate::source::{self, Made};
 use crate::tables;
 use crate::tally::Tally;
-use crate::trials::{hex, Trials};
+use crate::trials::{hex, Trials, CHECKPOINT};
 use crate::values::Values;
 use second::table::Table;
 use second::{Clock, Node};
@@ -60,6 +61,8 @@ pub struct Stream {
     freed: [bool; SLOTS],
     /// A message that is to come next, at this time if one is given.
     follows: Option<(Made, Option<Clock>)>,
+    /// Messages that overtake each other (A8); none where each is sent when it is made.
+    transit: Option<Transit>,
 }
 
 /// What a stream begins with.
@@ -124,6 +127,31 @@ impl Stream {
             habit: Habit::Closing,
         };
         Stream::begin(format!("seed {seed}, aged {number}"), random, beginning, tally)
+    }
+
+    /// A stream whose messages arrive out of order, and some of them twice (A8).
+    pub fn overtaken(seed: u64, number: u64, tally: &mut Tally) -> Result<Stream, String> {
+        let mut random = Random::of_part(seed, number);
+        let (form, shape) = (1 + (number % 2) as u8, *random.pick(&ACCEPTABLE));
+        let roster = rosters::shaped(form, shape, &mut random);
+        let values = Values::new(&roster, &mut random);
+        let parts = random
+            .chance(1, 2)
+            .then(|| restored::some_calls(&roster, &values, &mut random));
+        let beginning = Beginning {
+            roster,
+            shape,
+            values,
+            parts,
+            mode: CHURN,
+            trouble: SOME_TROUBLE,
+            habits: MOSTLY_CALM,
+            habit: Habit::Calm,
+        };
+        let name = format!("seed {seed}, overtaken {number}");
+        let mut stream = Stream::begin(name, random, beginning, tally)?;
+        stream.transit = Some(Transit::default());
+        Ok(stream)
     }
 
     /// A stream whose one pair has as many calls as it can have, or one less, all of which go at once (A7).
@@ -203,6 +231,7 @@ impl Stream {
             habit: beginning.habit,
             freed: [false; SLOTS],
             follows: None,
+            transit: None,
             random,
         })
     }
@@ -282,7 +311,18 @@ impl Stream {
                 return source::about(&self.first.calls[slot], random);
             }
         }
-        source::message(self.mode, self.trouble, values, &self.first, random, tally)
+        match &mut self.transit {
+            None => source::message(self.mode, self.trouble, values, &self.first, random, tally),
+            Some(transit) => {
+                while transit.is_short() {
+                    let mut number = |fields: &mut Fields, random: &mut Random| transit.number(fields, random);
+                    let (mode, trouble, table) = (self.mode, self.trouble, &self.first);
+                    let made = source::numbered(mode, trouble, values, table, random, tally, &mut number);
+                    transit.send(made);
+                }
+                transit.arrive(random)
+            }
+        }
     }
 
     /// One message to all: both programs, the lasting node and the ledger.
@@ -290,21 +330,11 @@ impl Stream {
         let tables = (&self.first, &self.second);
         let done = both::message(tables, &made.bytes, clock, buffer, &mut self.random)?;
         both::lasting(&mut self.node, &made.bytes, clock, &done)?;
-        let mut seen = None;
-        if let Some(ledger) = &mut self.ledger {
-            let calls = ledger.calls();
-            let fed = ledger.feed(&Fed {
-                message: &made.bytes,
-                buffer,
-                clock,
-                answer: done.answer,
-                closings: &done.closings,
-            });
-            let place = |what| format!("both answer {}; ledger: {what}", done.answer);
-            let fed = fed.and_then(|seen| carries_ids(seen, &done)).map_err(place)?;
-            refreshes_call(&fed, &done).map_err(place)?;
-            seen = Some((fed, calls - done.closings.len()));
-        }
+        let heard = self.ledger.as_ref().map_or(0, |ledger| ledger.heard().len());
+        let seen = match &mut self.ledger {
+            Some(ledger) => Some(fed(ledger, &made.bytes, buffer, clock, &done)?),
+            None => None,
+        };
         self.follows = match done.answer {
             20 if made.whole => follow_up(made, &done.behind, &mut self.random).map(|made| (made, None)),
             25 => follow_tear(&done, clock, &mut self.random),
@@ -323,6 +353,7 @@ impl Stream {
             freed: &self.freed,
             done: &done,
             seen,
+            heard: self.ledger.as_ref().map_or(&[], |ledger| &ledger.heard()[..heard]),
         };
         coverage::note(&step, tally);
         let opened = (done.answer == 20).then(|| step.new_slot());
@@ -333,9 +364,32 @@ impl Stream {
             self.freed[slot] = false;
         }
         (self.first, self.second) = (*done.first, *done.second);
+        if done.answer == 16 && self.random.chance(1, 4) {
+            self.after_restart(&made.bytes, tally)?;
+        }
         Ok(())
     }
 
+    /// A8, A13: a late message once more, to the table that is read from a copy of this one: it is late no longer.
+    fn after_restart(&mut self, message: &[u8], tally: &mut Tally) -> Result<(), String> {
+        let place = |what: String| format!("after a restart: {what}");
+        let random = &mut self.random;
+        let (_, copy) = checkpoints::both::write(&self.first, CHECKPOINT, random).map_err(place)?;
+        let read = checkpoints::both::read(random.chance(1, 2), &self.roster, &copy).map_err(place)?;
+        let tables = (&read.table, &read.table);
+        let done = both::message(tables, message, Clock::ZERO, 128, random).map_err(place)?;
+        let parts = Parts::of(&copy).ok_or("a copy that has no records")?;
+        let mut ledger = Ledger::restored(&self.roster, expected::restored_calls(&self.roster, &parts));
+        fed(&mut ledger, message, 128, Clock::ZERO, &done).map_err(place)?;
+        if !(20..=34).contains(&done.answer) {
+            return Err(place(format!("what was late is answered {}", done.answer)));
+        }
+        tally.situation("16, then after a restart the same is taken");
+        Ok(())
+    }
+
+    /// How many messages one gets whose messages overtake each other.
+    pub const OVERTAKEN: u64 = 120;
     /// How many messages a crowd gets: enough for made calls to come and go.
     pub const CROWDED: u64 = 50;
     /// How many one gets whose calls went at once, and how many one with calls that go one after another.
@@ -372,6 +426,28 @@ impl Stream {
             format!("{}, table after step {step}, {what}\nroster {roster}", self.name)
         })
     }
+}
+
+/// Feeds the ledger a message: what it saw, and its calls behind the closings.
+fn fed(
+    ledger: &mut Ledger,
+    message: &[u8],
+    buffer: usize,
+    clock: Clock,
+    done: &both::Done,
+) -> Result<(Seen, usize), String> {
+    let calls = ledger.calls();
+    let seen = ledger.feed(&Fed {
+        message,
+        buffer,
+        clock,
+        answer: done.answer,
+        closings: &done.closings,
+    });
+    let place = |what| format!("both answer {}; ledger: {what}", done.answer);
+    let seen = seen.and_then(|seen| carries_ids(seen, done)).map_err(place)?;
+    refreshes_call(&seen, done).map_err(place)?;
+    Ok((seen, calls - done.closings.len()))
 }
 
 /// What comes behind an opening, sometimes: a nameless one again at once, or a nameless one of the pair behind a name

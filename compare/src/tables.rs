@@ -31,6 +31,9 @@ pub const UNUSED: Customer = Customer {
     address: 0,
     guarantee: 0,
     limit: 0,
+    kept: 0,
+    epoch: 0,
+    identifier: 0,
     endpoints: [0; 4],
     places: [FREE_PLACE; 4],
 };

@@ -8,8 +8,8 @@ use crate::outside::{Due, KEPT, REFUSED};
 use std::collections::BTreeMap;
 
 /// Every answer of 01 to a message, and to a roster.
-pub const MESSAGE_ANSWERS: [u8; 28] = [
-    1, 2, 3, 4, 5, 6, 7, 8, 9, 10, 11, 12, 13, 14, 15, 20, 21, 22, 23, 24, 25, 30, 31, 32, 33, 34, 35, 37,
+pub const MESSAGE_ANSWERS: [u8; 29] = [
+    1, 2, 3, 4, 5, 6, 7, 8, 9, 10, 11, 12, 13, 14, 15, 16, 20, 21, 22, 23, 24, 25, 30, 31, 32, 33, 34, 35, 37,
 ];
 /// To rosters by their form: of form 1, of form 2, and others, a first byte that is missing included.
 pub const ROSTER_ANSWERS: [(&str, &[u8]); 3] = [

@@ -25,7 +25,7 @@ const WORDS: usize = 60;
 const LETTERS: usize = 400;
 
 /// A buffer that the largest checkpoint of a table fits into.
-const CHECKPOINT: usize = 26_000;
+pub(crate) const CHECKPOINT: usize = 26_000;
 
 /// A message, and what comes with it: the length of the buffer, time and period.
 struct Letter {

@@ -77,7 +77,7 @@ mod tests {
 
     /// Calls of customer 5 in slots 0, 70 and 199, refreshed at 100, 110 and 110; the last has a connection.
     fn three() -> Words {
-        let mut words = [0; 6598];
+        let mut words = [0; 6622];
         let table = Table::of_mut(&mut words);
         (table.epoch, table.next, table.time, table.listed, table.form) = (7, 1, 120, 1, 2);
         (table.customers[0].address, table.customers[0].limit) = (5, 200);

@@ -13,7 +13,7 @@ use expiry::Clock;
 use table::Table;
 
 /// A table as its words.
-pub type Words = [u32; 6598];
+pub type Words = [u32; 6622];
 
 /// Calls that were closed before a message: slot and address of each.
 pub type Closings = [[u32; 2]; table::CALLS];

@@ -38,6 +38,10 @@ fn answer(table: &mut Table, counts: &Counts, s: &[u8], reply: &mut [u8]) -> (u8
     if k == 8 {
         return (11, 0);
     }
+    if matches!(kind, Kind::Open | Kind::OpenNameless | Kind::Close) && !keep(&mut table.customers[k], requested(s, &o))
+    {
+        return (16, 0);
+    }
     let (pair, id) = (pair_of(endpoint, sender), u32::from(be16(s, o.session + 8)));
     match kind {
         Kind::Open => {
@@ -66,6 +70,18 @@ fn answer(table: &mut Table, counts: &Counts, s: &[u8], reply: &mut [u8]) -> (u8
 fn customer(table: &Table, address: u32) -> usize {
     let listed = &table.customers[..table.listed as usize];
     listed.iter().position(|one| one.address == address).unwrap_or(8)
+}
+
+/// Keeps a Notify's MESSAGE_ID, whatever it will be answered, unless it lies behind the one kept: then false.
+#[inline(always)]
+fn keep(customer: &mut Customer, (epoch, identifier): (u32, u32)) -> bool {
+    // 1 to 2^31 - 1 behind.
+    let behind = customer.identifier.wrapping_sub(identifier).wrapping_sub(1) < 0x7fff_ffff;
+    let is_late = (customer.kept != 0) & (customer.epoch == epoch) & behind;
+    if !is_late {
+        (customer.kept, customer.epoch, customer.identifier) = (1, epoch, identifier);
+    }
+    !is_late
 }
 
 /// The roster's total, for a table that keeps the rules.
@@ -399,4 +415,38 @@ fn path_err(table: &Table, s: &[u8], o: &Objects, error: u32, reply: &mut [u8]) 
     r[36..48].copy_from_slice(&s[o.template..o.template + 12]);
     seal(r);
     48
+}
+
+#[cfg(test)]
+mod tests {
+    use super::*;
+    use crate::Words;
+
+    /// Whether a Notify with these numbers is late behind 9 and this identifier.
+    fn is_late(old: u32, epoch: u32, identifier: u32) -> bool {
+        let mut words: Words = [0; 6622];
+        let customer = &mut Table::of_mut(&mut words).customers[3];
+        assert!(keep(customer, (9, old)));
+        let late = !keep(customer, (epoch, identifier));
+        let due = if late { (1, 9, old) } else { (1, epoch, identifier) };
+        assert_eq!((customer.kept, customer.epoch, customer.identifier), due);
+        late
+    }
+
+    #[test]
+    fn late_messages() {
+        const HALF: u32 = 1 << 31;
+        for old in [0, 1, 42, HALF - 1, HALF, HALF + 1, u32::MAX] {
+            for (less, late) in [
+                (1, true),
+                (HALF - 1, true),
+                (HALF, false),
+                (HALF + 1, false),
+                (0, false),
+            ] {
+                assert_eq!(is_late(old, 9, old.wrapping_sub(less)), late);
+                assert!(!is_late(old, 8, old.wrapping_sub(less)));
+            }
+        }
+    }
 }

@@ -164,8 +164,12 @@ fn roster(table: &Table) -> Option<(usize, [u32; 8], u32)> {
             // Those past k are zero and are masked away.
             bad |= equal(&addresses, customer.address) & ((1 << k) - 1) != 0;
             addresses[k] = customer.address;
+            // What is taken from 0 has all bits set, from 1 none.
+            let numbers = (customer.epoch | customer.identifier) & customer.kept.wrapping_sub(1);
+            bad |= numbers | customer.kept >> 1 | customer.epoch >> 24 != 0;
         } else {
             bad |= customer.address | customer.guarantee | customer.limit != 0;
+            bad |= customer.kept | customer.epoch | customer.identifier != 0;
         }
     }
     (!bad && sum <= total).then_some((listed, addresses, total))
@@ -442,7 +446,7 @@ mod tests {
     /// A full table of one pair, of this form, whose connections all meet in one chain.
     fn all_meet(form: u32) -> Words {
         let total = TOTALS[form as usize];
-        let mut words = [0; 6598];
+        let mut words = [0; 6622];
         let table = Table::of_mut(&mut words);
         (table.address, table.epoch, table.next, table.listed, table.form) = (9, 7, 1, 1, form);
         (table.customers[0].address, table.customers[0].limit) = (5, total);
@@ -500,6 +504,23 @@ mod tests {
         assert!(breaks(&|table| table.calls[0].epoch = 1 << 24));
         assert!(breaks(&|table| table.calls[2].identifier = 1));
         assert!(!breaks(&|table| table.calls[2].made = 1));
+    }
+
+    #[test]
+    fn kept_identifiers() {
+        let breaks = |customer: usize, fields: (u32, u32, u32)| {
+            let mut words = all_meet(2);
+            let record = &mut Table::of_mut(&mut words).customers[customer];
+            (record.kept, record.epoch, record.identifier) = fields;
+            !rules_hold(&words)
+        };
+        for kept in [(0, 0, 0), (1, 0, 0), (1, 0x00ff_ffff, u32::MAX)] {
+            assert!(!breaks(0, kept));
+            assert_eq!(breaks(1, kept), kept.0 == 1);
+        }
+        for broken in [(2, 0, 0), (u32::MAX, 0, 0), (0, 1, 0), (0, 0, 1), (1, 1 << 24, 0)] {
+            assert!(breaks(0, broken) && breaks(1, broken) && breaks(7, broken));
+        }
     }
 
     #[test]

@@ -37,6 +37,9 @@ pub struct Customer {
     pub address: u32,
     pub guarantee: u32,
     pub limit: u32,
+    pub kept: u32,
+    pub epoch: u32,
+    pub identifier: u32,
     pub endpoints: [u32; 4],
     pub places: [Place; 4],
 }
@@ -56,7 +59,7 @@ pub struct Table {
 }
 
 const _: () = assert!(size_of::<Table>() == size_of::<Words>() && align_of::<Table>() == align_of::<Words>());
-const _: () = assert!(size_of::<Customer>() == 92 && size_of::<Call>() == 128);
+const _: () = assert!(size_of::<Customer>() == 104 && size_of::<Call>() == 128);
 const _: () = assert!(cfg!(target_endian = "little"));
 
 impl Table {

@@ -1,6 +1,6 @@
 //! 01, "Every answer" and "Share": opening and closing calls; A6, calls that arrive without names.
 
-use crate::keys::{CallIds, Name, Pair, RequestId, ShortId};
+use crate::keys::{CallIds, MessageId, Name, Pair, ShortId};
 use crate::message::CallRequest;
 use crate::node::{Node, OpenCall};
 use crate::places::Places;
@@ -30,7 +30,7 @@ impl Node {
 
     /// A6, an open without names: 21 by its two numbers, 34, 20. With 20 and 21 the call's IDs, to be sent.
     pub(crate) fn open_nameless(&mut self, request: &CallRequest<'_>, customer: usize) -> (u8, Option<CallIds>) {
-        let (pair, made_by) = (request.pair, request.request_id());
+        let (pair, made_by) = (request.pair, request.numbers());
         if let Some(&id) = self.made.get(&(pair, made_by)) {
             self.refresh((pair, id));
             let name = self.calls[&(pair, id)].name;
@@ -53,7 +53,7 @@ impl Node {
     }
 
     /// A call that share allows, with IDs that its pair does not use.
-    fn add_call(&mut self, pair: Pair, ids: CallIds, made_by: Option<RequestId>, customer: usize) {
+    fn add_call(&mut self, pair: Pair, ids: CallIds, made_by: Option<MessageId>, customer: usize) {
         // Calls are at most S. Either S is under the total, or this customer is under its guarantee and calls are
         // under S.
         let slot = self.free.take_lowest().expect("share leaves a free slot");

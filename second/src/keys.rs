@@ -66,9 +66,9 @@ pub(crate) fn without_padding(name: &[u8]) -> &[u8] {
     &name[..end]
 }
 
-/// A6: the two numbers of a nameless request, its MESSAGE_ID's epoch and identifier.
+/// A MESSAGE_ID's epoch and identifier. They are the two numbers of a nameless request (A6).
 #[derive(Clone, Copy, PartialEq, Eq, Hash, Debug)]
-pub struct RequestId {
+pub struct MessageId {
     pub epoch: u32,
     pub identifier: u32,
 }
@@ -78,4 +78,4 @@ pub(crate) type ShortId = (Pair, u16);
 /// A long Call ID with its pair.
 pub(crate) type LongId = (Pair, Name);
 /// The two numbers of a nameless request with its pair.
-pub(crate) type PairRequest = (Pair, RequestId);
+pub(crate) type PairRequest = (Pair, MessageId);

@@ -3,7 +3,7 @@
 
 use crate::bytes::{long, word};
 use crate::checksum;
-use crate::keys::{without_padding, Connection, Pair, RequestId};
+use crate::keys::{without_padding, Connection, MessageId, Pair};
 use crate::objects::{walk, Objects};
 use crate::table::NAME;
 
@@ -71,8 +71,8 @@ impl CallRequest<'_> {
     }
 
     /// The MESSAGE_ID's epoch and identifier, its flags apart.
-    pub fn request_id(&self) -> RequestId {
-        RequestId {
+    pub fn numbers(&self) -> MessageId {
+        MessageId {
             epoch: long(self.message_id, 4) & 0x00ff_ffff,
             identifier: long(self.message_id, 8),
         }

@@ -3,7 +3,7 @@
 use std::collections::HashMap;
 
 use crate::expiry::{Clock, Closing};
-use crate::keys::{Connection, LongId, Name, PairRequest, RequestId, ShortId};
+use crate::keys::{Connection, LongId, MessageId, Name, PairRequest, ShortId};
 use crate::message::{read, CallRequest, Message};
 use crate::places::Places;
 use crate::reply::{self, Outcome, Own};
@@ -31,6 +31,8 @@ pub struct Node {
     pub(crate) free: Slots,
     /// The connections, and where each stands.
     pub(crate) connections: HashMap<Connection, Position>,
+    /// By a customer's address, the last MESSAGE_ID accepted in a Notify of its (A8).
+    pub(crate) last_ids: HashMap<u32, MessageId>,
 }
 
 #[derive(Clone, Debug)]
@@ -38,7 +40,7 @@ pub(crate) struct OpenCall {
     pub slot: usize,
     pub name: Name,
     /// The nameless request that made it (A6). None where it was opened by name.
-    pub made_by: Option<RequestId>,
+    pub made_by: Option<MessageId>,
     /// The node's time at its last 20 or 21 (A7).
     pub refreshed: u32,
     pub places: Places,
@@ -146,12 +148,16 @@ impl Node {
         }
     }
 
-    /// The message and its customer's place in the roster, or the fault of form; 11 stands before 12 and 13.
+    /// The message and its customer's place in the roster, or the fault of form; 11 stands before 12 and 13, and 16
+    /// behind them.
     fn admit<'a>(&self, message: &'a [u8]) -> Result<(Message<'a>, usize), u8> {
         match read(message) {
             Ok(message) => {
                 let customer = self.roster.find(message.sender()).ok_or(11)?;
-                Ok((message, customer))
+                match self.is_late(&message) {
+                    true => Err(16),
+                    false => Ok((message, customer)),
+                }
             }
             Err(fault) => match fault.sender {
                 Some(sender) if self.roster.find(sender).is_none() => Err(11),
@@ -160,7 +166,7 @@ impl Node {
         }
     }
 
-    /// Sends a Notify, which uses up one own identifier.
+    /// Sends a Notify, which uses up one own identifier; the one that it answers was accepted (A8: 20 to 34).
     fn notify(&mut self, reply: &mut [u8], request: &CallRequest<'_>, outcome: Outcome) -> usize {
         let own = Own {
             address: self.address,
@@ -168,6 +174,7 @@ impl Node {
             identifier: self.next,
         };
         self.next = self.next.wrapping_add(1);
+        self.last_ids.insert(request.pair.sender, request.numbers());
         reply::notify(reply, own, request, outcome)
     }
 }

@@ -2,14 +2,14 @@
 
 use std::collections::HashMap;
 
-use crate::keys::{Connection, Name, Pair, RequestId};
+use crate::keys::{Connection, MessageId, Name, Pair};
 use crate::node::{Holder, Node, OpenCall, Position};
 use crate::places::Places;
 use crate::roster::{Form, Roster};
 use crate::slots::Slots;
 use crate::table::{Call, Customer, Place, Table, PLACES};
 
-/// An epoch is under this, a node's own and a request's.
+/// An epoch is under this, a node's own and any message's.
 const EPOCHS: u32 = 1 << 24;
 
 impl Node {
@@ -32,6 +32,8 @@ impl Node {
         let listed = node.roster.accounts.len();
         for (customer, record) in table.customers[..listed].iter().enumerate() {
             node.insert_standalone(customer, record)?;
+            let last = marked(record.kept, record.epoch, record.identifier)?;
+            node.last_ids.extend(last.map(|last| (record.address, last)));
         }
         node.keeps_share().then_some(node)
     }
@@ -50,6 +52,7 @@ impl Node {
             long_ids: HashMap::new(),
             made: HashMap::new(),
             connections: HashMap::new(),
+            last_ids: HashMap::new(),
         })
     }
 
@@ -67,7 +70,7 @@ impl Node {
         if call.refreshed > self.time {
             return None;
         }
-        let made_by = checked_request(call)?;
+        let made_by = marked(call.made, call.epoch, call.identifier)?;
         let id = u16::try_from(call.id).ok()?;
         let name = checked_name(call)?;
         let customer = self.roster.find(call.sender)?;
@@ -144,6 +147,9 @@ impl Node {
             record.address = account.address;
             record.guarantee = account.guarantee.into();
             record.limit = account.limit.into();
+            if let Some(last) = self.last_ids.get(&account.address) {
+                (record.kept, record.epoch, record.identifier) = (1, last.epoch, last.identifier);
+            }
         }
         for (&(pair, id), open) in &self.calls {
             table.occupy(open.slot);
@@ -198,20 +204,19 @@ fn checked_name(call: &Call) -> Option<Name> {
     Some(Name { size, bytes: call.name })
 }
 
-/// A6: the request that made the call, if the mark says that one did; an unmarked call has zeros there. Else a rule is
-/// broken. 0 and 0 are numbers like others.
-fn checked_request(call: &Call) -> Option<Option<RequestId>> {
-    let &Call { epoch, identifier, .. } = call;
-    match call.made {
+/// The MESSAGE_ID beside a mark, if the mark says that there is one: the request's that made a call (A6), a customer's
+/// last (A8). Without one there are zeros. Else a rule is broken. 0 and 0 are numbers like others.
+fn marked(mark: u32, epoch: u32, identifier: u32) -> Option<Option<MessageId>> {
+    match mark {
         0 => (epoch == 0 && identifier == 0).then_some(None),
-        1 => (epoch < EPOCHS).then_some(Some(RequestId { epoch, identifier })),
+        1 => (epoch < EPOCHS).then_some(Some(MessageId { epoch, identifier })),
         _ => None,
     }
 }
 
 /// The mark and the two numbers of a made call; the fields of any other stay zero.
-pub(crate) fn put_request(call: &mut Call, made_by: Option<RequestId>) {
-    if let Some(RequestId { epoch, identifier }) = made_by {
+pub(crate) fn put_request(call: &mut Call, made_by: Option<MessageId>) {
+    if let Some(MessageId { epoch, identifier }) = made_by {
         call.made = 1;
         call.epoch = epoch;
         call.identifier = identifier;

@@ -1,4 +1,4 @@
-//! 01, "Table rules": the table as plain data, 6,598 words of 32 bits with the fields and the order of chaffmoor.h. A
+//! 01, "Table rules": the table as plain data, 6,622 words of 32 bits with the fields and the order of chaffmoor.h. A
 //! field can hold more than its values are: 01's widths are table rules (`rules`).
 
 /// Slots for calls. A roster's total may be less (A11).
@@ -39,14 +39,18 @@ pub struct Call {
     pub places: [Place; PLACES],
 }
 
-/// A record of the roster, with the customer's connections of Call ID 0: the one in a place has the end point of the
-/// same number.
+/// A record of the roster. `kept` is 1 where a MESSAGE_ID of the customer's Notifies is kept, and then `epoch` and
+/// `identifier` are its (A8). Behind them are the customer's connections of Call ID 0: the one in a place has the end
+/// point of the same number.
 #[repr(C)]
 #[derive(Clone, Copy, PartialEq, Eq, Debug)]
 pub struct Customer {
     pub address: u32,
     pub guarantee: u32,
     pub limit: u32,
+    pub kept: u32,
+    pub epoch: u32,
+    pub identifier: u32,
     pub endpoints: [u32; PLACES],
     pub places: [Place; PLACES],
 }
@@ -97,6 +101,9 @@ impl Customer {
         address: 0,
         guarantee: 0,
         limit: 0,
+        kept: 0,
+        epoch: 0,
+        identifier: 0,
         endpoints: [0; PLACES],
         places: [Place::FREE; PLACES],
     };

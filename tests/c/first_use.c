@@ -1,6 +1,6 @@
 /* A first use of the library from C: a roster, the worked Path of document 01 and its reply, a setup and its reply, two
- * connections, every field of the table, tables that were changed by hand, a roster of form 2, and a call that nobody
- * refreshes.
+ * connections, every field of the table, tables that were changed by hand, a roster of form 2, a call that nobody
+ * refreshes, and closes that come late.
  * Build: cc -Iinclude tests/c/first_use.c target/staticlib/libchaffmoor.a -o first_use */
 #include "chaffmoor.h"
 #include "show.h"
@@ -123,6 +123,50 @@ static void expiry(void)
     show_table(&table);
 }
 
+/* A close of the setup's call with this MESSAGE_ID: its answer, and whether it left all but the time as it was. */
+static void close_at(uint32_t time, uint8_t epoch, uint32_t identifier)
+{
+    /* The places of the epoch's last byte, of the identifier and of ADMIN_STATUS's last byte. */
+    enum { EPOCH = 55, IDENTIFIER = 56, STATUS = 67 };
+    static chaffmoor_table before;
+    static uint8_t old[sizeof reply];
+    uint8_t message[sizeof setup];
+    memcpy(message, setup, sizeof setup);
+    message[EPOCH] = epoch;
+    for (int i = 0; i < 4; i++)
+        message[IDENTIFIER + i] = (uint8_t)(identifier >> (24 - 8 * i));
+    message[STATUS] = 0x09;
+    memset(old, 0xee, sizeof old);
+    memcpy(reply, old, sizeof reply);
+    before = table;
+    before.time = time;
+    chaffmoor_message_reply r =
+        chaffmoor_handle(&table, message, sizeof message, reply, sizeof reply, time, 0, closings);
+    printf("close with %u and %u at %u: answer %u, %zu bytes, table %s, buffer %s\n", (unsigned)epoch,
+           (unsigned)identifier, (unsigned)time, (unsigned)r.answer, r.length,
+           memcmp(&table, &before, sizeof table) == 0 ? "as it was but for its time" : "changed",
+           memcmp(reply, old, sizeof reply) == 0 ? "as it was" : "changed");
+}
+
+/* Closes that were overtaken: request A8. */
+static void late(void)
+{
+    printf("roster: answer %u\n", (unsigned)chaffmoor_read_roster(&table, roster, sizeof roster));
+    /* Its MESSAGE_ID is 3 and 17. */
+    at(100, "setup", setup, sizeof setup, sizeof reply);
+    /* Behind it by 1, and by 2^31 less 1. */
+    close_at(110, 3, 16);
+    close_at(120, 3, 2147483666u);
+    at(130, "setup", setup, sizeof setup, sizeof reply);
+    /* 2^31 from it, and back: neither is late. */
+    close_at(140, 3, 2147483665u);
+    close_at(150, 3, 17);
+    /* Another epoch, and behind that by 1. */
+    close_at(160, 4, 0);
+    close_at(170, 4, 4294967295u);
+    show_table(&table);
+}
+
 int main(void)
 {
     /* What the table holds before a roster is read does not matter. */
@@ -148,6 +192,16 @@ int main(void)
     printf("they are at %zu, %zu, %zu and %zu\n", offsetof(chaffmoor_call, refreshed), offsetof(chaffmoor_call, epoch),
            offsetof(chaffmoor_call, identifier), offsetof(chaffmoor_call, made));
 
+    /* What is kept of a customer: 1 with any epoch of 24 bits and any identifier, or zeros. Only one is listed. */
+    broken("kept 2", &table.customers[0].kept, 2);
+    broken("kept 0 over numbers", &table.customers[0].kept, 0);
+    broken("kept epoch 2^24", &table.customers[0].epoch, 1 << 24);
+    broken("kept of nobody", &table.customers[1].kept, 1);
+    broken("epoch of nobody", &table.customers[1].epoch, 1);
+    broken("identifier of nobody", &table.customers[7].identifier, 1);
+    printf("they are at %zu, %zu and %zu\n", offsetof(chaffmoor_customer, kept), offsetof(chaffmoor_customer, epoch),
+           offsetof(chaffmoor_customer, identifier));
+
     /* Form 1 has 64 calls in all: the slots behind them are free, and bits 200 to 255 have no slot. */
     broken("form 0", &table.form, 0);
     broken("form 3", &table.form, 3);
@@ -165,5 +219,6 @@ int main(void)
     printf("a byte less: answer %u\n", (unsigned)chaffmoor_read_roster(&table, wide, sizeof wide - 1));
     show_table(&table);
     expiry();
+    late();
     return 0;
 }

@@ -40,8 +40,9 @@ static void show_place(const char *of, uint32_t endpoint, const chaffmoor_place 
 
 static void show_customer(const chaffmoor_customer *customer)
 {
-    printf("customer %08x: guarantee %u, limit %u\n", (unsigned)customer->address, (unsigned)customer->guarantee,
-           (unsigned)customer->limit);
+    printf("customer %08x: guarantee %u, limit %u, kept %u, epoch %u, identifier %u\n", (unsigned)customer->address,
+           (unsigned)customer->guarantee, (unsigned)customer->limit, (unsigned)customer->kept,
+           (unsigned)customer->epoch, (unsigned)customer->identifier);
     for (int j = 0; j < CHAFFMOOR_PLACES; j++)
         if (customer->places[j].taken)
             show_place("customer", customer->endpoints[j], &customer->places[j]);

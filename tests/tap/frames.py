@@ -46,11 +46,28 @@ CASES = {
         setup(X, 2, b"ab" + bytes(1)),
         close(X, 1, b"ab" + bytes(30)),
         close(X, 1, b"ab"),
-        setup(X, 1, bytes(4)),
-        close(X, 1, bytes(32)),
-        setup(X, 1, b"ab" + bytes(31)),
-        setup(X, 1, b"a\0b"),
-        setup(X, 1, b"a"),
+        setup(X, 1, bytes(4), identifier=3),
+        close(X, 1, bytes(32), identifier=3),
+        setup(X, 1, b"ab" + bytes(31), identifier=3),
+        setup(X, 1, b"a\0b", identifier=3),
+        setup(X, 1, b"a", identifier=3),
+    ),
+    # 02, A8: closes behind an open's identifier, one of them with Call ID 0; 2^31 is not behind; another epoch starts
+    # afresh, and the identifier before 0 is 4,294,967,295; back in the first epoch; the other customer has its own
+    "late": frames(
+        TWO,
+        setup(X, 5, b"a", epoch=1, identifier=7),
+        close(X, 5, b"a", epoch=1, identifier=6),
+        close(X, 0, b"a", epoch=1, identifier=6),
+        setup(X, 5, b"a", epoch=1, identifier=7),
+        setup(X, 5, b"b", epoch=1, identifier=7 + 2**31),
+        setup(X, 5, b"a", epoch=1, identifier=7),
+        close(X, 9, b"c", epoch=2, identifier=1),
+        close(X, 5, b"a", epoch=2, identifier=0),
+        close(X, 5, b"a", epoch=2, identifier=2**32 - 1),
+        close(X, 5, b"a", epoch=1, identifier=0),
+        setup(X, 5, b"a", epoch=1, identifier=2**32 - 1),
+        setup(Y, 5, b"a", epoch=1, identifier=2**32 - 1),
     ),
     # 1,024 bytes is read, 1,028 is 3
     "sizes": frames(TWO, filled(1024), filled(1028)),
@@ -89,7 +106,7 @@ CASES = {
         setup(Y, 199, b"y199"),
         close(X, 2, b"b"),
         setup(Y, 199, b"y199"),
-        setup(X, 2, b"b"),
+        setup(X, 2, b"b", identifier=3),
     ),
     # a connection under the call in slot 64, which form 1 does not have
     "far-2": frames(

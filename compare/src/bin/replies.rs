@@ -83,8 +83,8 @@ fn main() {
     node.send(&build::open(END, X, 3, b"third"), 34);
     node.send(&build::close(END, X, 2, b"second"), 22);
     // Without names (A6): made, again, at the limit, by the made IDs.
-    node.send(&build::nameless(END, X, (9, 1)), 20);
-    node.send(&build::nameless(END, X, (9, 1)), 21);
-    node.send(&build::nameless(END, X, (9, 2)), 34);
+    node.send(&build::nameless(END, X, (10, 1)), 20);
+    node.send(&build::nameless(END, X, (10, 1)), 21);
+    node.send(&build::nameless(END, X, (10, 2)), 34);
     node.send(&build::close(END, X, 2, &made::name(END, X, 2)), 22);
 }

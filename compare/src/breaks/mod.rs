@@ -6,6 +6,7 @@ mod calls;
 mod connections;
 pub mod form;
 mod free;
+mod kept;
 mod made;
 mod refreshed;
 mod roster;
@@ -23,6 +24,7 @@ pub fn all() -> impl Iterator<Item = &'static (&'static str, Break)> {
         .chain(calls::BREAKS)
         .chain(made::BREAKS)
         .chain(refreshed::BREAKS)
+        .chain(kept::BREAKS)
         .chain(connections::BREAKS)
         .chain(free::BREAKS)
         .chain(form::BREAKS)

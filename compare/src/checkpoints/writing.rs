@@ -7,6 +7,7 @@ use super::tally::Tally;
 use crate::both::same_tables;
 use crate::breaks;
 use crate::build::Roster;
+use crate::late::set_kept;
 use crate::random::Random;
 use crate::rosters::{shaped, some_form, Shape};
 use crate::tables::{self, is_taken};
@@ -85,7 +86,8 @@ pub fn again(table: &Table, roster: &[u8]) -> Result<(), String> {
     Ok(())
 }
 
-/// The table as it has to come back: own identifiers from 1, the time at the latest refresh, taken places first.
+/// The table as it has to come back: own identifiers from 1, the time at the latest refresh, no MESSAGE_ID kept (A8),
+/// taken places first.
 fn closed_up(table: &Table) -> Table {
     let mut table = *table;
     table.next = 1;
@@ -94,6 +96,7 @@ fn closed_up(table: &Table) -> Table {
         call.places.sort_by_key(|place| !is_taken(place));
     }
     for customer in &mut table.customers {
+        set_kept(customer, None);
         let mut both: Vec<_> = customer.places.into_iter().zip(customer.endpoints).collect();
         both.sort_by_key(|(place, _)| !is_taken(place));
         for (at, (place, endpoint)) in both.into_iter().enumerate() {

@@ -14,12 +14,14 @@ ghost use Rattle.table.specs.Rules.{rulesHold};
 ghost use Rattle.table.specs.Words.{tableOf};
 ghost use Rattle.spec_changes.specs.Calls.{refreshedAt};
 ghost use Rattle.answers.specs.declared.answer.Answer.the-variants.{CallAlreadyOpen};
+ghost use Rattle.find_call.specs.Listed.{ListingOf};
 ghost use Rattle.outcomes.specs.Outcomes.{handedBack, ruled};
 ghost use Rattle.answer_call.specs.Notified.{madeBytes, Notified};
 use crate::sending::notified;
 use crate::sending::notified_made;
 use answers::answer::Answer;
 use find_call::made::find_made;
+use find_call::share::Listing;
 use find_call::share::share_used_up;
 use make_ids::name::MADE_SIZE;
 use make_ids::name::made_name_words;
@@ -76,17 +78,23 @@ fn answered_again(
     )
 }
 
-// 21, 34, 20. The rules hold and the sender is listed, so that a call that may be opened has a free slot. The request has
-// no name.
-pub fn open_nameless(t: &mut Words, msg: &[u8], q: CallRequest, reply: &mut [u8]) -> Outcome
-    requires { ⌜ (rulesHold (tableOf (now t)) ≡ true) × (isListed (roster (tableOf (now t))) (q .sender) ≡ true) × CallInside (now msg) q × (q .name .size ≡ 0) × (leastBuffer ≤ length (now reply)) ⌝ }
+// 21, 34, 20. The rules hold and the sender is listed, so that a call that may be opened has a free slot; its listing is
+// handed in, since the caller has looked it up. The request has no name.
+pub fn open_nameless(
+    t: &mut Words,
+    msg: &[u8],
+    q: CallRequest,
+    listing: Listing,
+    reply: &mut [u8],
+) -> Outcome
+    requires { ⌜ (rulesHold (tableOf (now t)) ≡ true) × (isListed (roster (tableOf (now t))) (q .sender) ≡ true) × CallInside (now msg) q × (q .name .size ≡ 0) × (leastBuffer ≤ length (now reply)) × ListingOf (tableOf (now t)) (q .sender) listing ⌝ }
     ensures { λ r. ⌜ handedBack r (tableOf (now (t .exit))) (now (reply .exit)) ≡ ruled (tableOf (now (t .entry))) (now (msg .entry)) (now (reply .entry)) (Open q) ⌝ }
 {
     let m = find_made(t, q);
     if m.known {
         return answered_again(t, msg, q, m.slot, reply);
     }
-    if share_used_up(t, q.sender) {
+    if share_used_up(t, q.sender, listing) {
         return notified(t, msg, q, C, Answer::NoShare, reply);
     }
     let id = made_short(t, q.endpoint, q.sender);

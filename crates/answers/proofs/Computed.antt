@@ -6,14 +6,14 @@ use mathlib.Core.Path.{_≡_, refl}
 use mathlib.Core.List.{List, [], _∷_, map}
 use mathlib.Core.Bool.{cond}
 use Rattle.answers.specs.declared.answer.Answer.{Answer}
-use Rattle.answers.specs.declared.answer.Answer.the-variants.{TableBroken, BufferTooSmall, SenderNotListed, UnderOtherCall, NotHeld, CallOpened, CallAlreadyOpen, CallClosed, ConnectionAdded, ConnectionAlreadyHeld, ConnectionRemoved, CallIdContention, DuplicateCall, ConnectionsStillExist, UnknownCall, NoShare, PathUnknownCall, NoPlaceLeft}
+use Rattle.answers.specs.declared.answer.Answer.the-variants.{TableBroken, BufferTooSmall, SenderNotListed, UnderOtherCall, NotHeld, Late, CallOpened, CallAlreadyOpen, CallClosed, ConnectionAdded, ConnectionAlreadyHeld, ConnectionRemoved, CallIdContention, DuplicateCall, ConnectionsStillExist, UnknownCall, NoShare, PathUnknownCall, NoPlaceLeft}
 use Rattle.answers.specs.Answers.{answerNumber, errorCode, errorValue, sendsNotify, sendsPathErr}
 
 abbrev numbers : Answer → List ℕ
 numbers a = answerNumber a ∷ cond (sendsNotify a) 1 (cond (sendsPathErr a) 2 0) ∷ errorCode a ∷ errorValue a ∷ []
 
-pub unsent : map numbers (TableBroken ∷ BufferTooSmall ∷ SenderNotListed ∷ UnderOtherCall ∷ NotHeld ∷ ConnectionAdded ∷ ConnectionAlreadyHeld ∷ ConnectionRemoved ∷ [])
-    ≡ (1 ∷ 0 ∷ 0 ∷ 0 ∷ []) ∷ (2 ∷ 0 ∷ 0 ∷ 0 ∷ []) ∷ (11 ∷ 0 ∷ 0 ∷ 0 ∷ []) ∷ (14 ∷ 0 ∷ 0 ∷ 0 ∷ []) ∷ (15 ∷ 0 ∷ 0 ∷ 0 ∷ []) ∷ (23 ∷ 0 ∷ 0 ∷ 0 ∷ []) ∷ (24 ∷ 0 ∷ 0 ∷ 0 ∷ []) ∷ (25 ∷ 0 ∷ 0 ∷ 0 ∷ []) ∷ []
+pub unsent : map numbers (TableBroken ∷ BufferTooSmall ∷ SenderNotListed ∷ UnderOtherCall ∷ NotHeld ∷ Late ∷ ConnectionAdded ∷ ConnectionAlreadyHeld ∷ ConnectionRemoved ∷ [])
+    ≡ (1 ∷ 0 ∷ 0 ∷ 0 ∷ []) ∷ (2 ∷ 0 ∷ 0 ∷ 0 ∷ []) ∷ (11 ∷ 0 ∷ 0 ∷ 0 ∷ []) ∷ (14 ∷ 0 ∷ 0 ∷ 0 ∷ []) ∷ (15 ∷ 0 ∷ 0 ∷ 0 ∷ []) ∷ (16 ∷ 0 ∷ 0 ∷ 0 ∷ []) ∷ (23 ∷ 0 ∷ 0 ∷ 0 ∷ []) ∷ (24 ∷ 0 ∷ 0 ∷ 0 ∷ []) ∷ (25 ∷ 0 ∷ 0 ∷ 0 ∷ []) ∷ []
 unsent = refl
 
 pub sent : map numbers (CallOpened ∷ CallAlreadyOpen ∷ CallClosed ∷ CallIdContention ∷ DuplicateCall ∷ ConnectionsStillExist ∷ UnknownCall ∷ NoShare ∷ PathUnknownCall ∷ NoPlaceLeft ∷ [])

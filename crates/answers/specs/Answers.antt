@@ -5,7 +5,7 @@ use mathlib.Core.Bool.{Bool, true, false}
 use lib.Dec.{eqb}
 use Rattle.objects.specs.Faults.{faultNumber}
 use Rattle.answers.specs.declared.answer.Answer.{Answer}
-use Rattle.answers.specs.declared.answer.Answer.the-variants.{TableBroken, BufferTooSmall, Malformed, SenderNotListed, UnderOtherCall, NotHeld, CallOpened, CallAlreadyOpen, CallClosed, ConnectionAdded, ConnectionAlreadyHeld, ConnectionRemoved, CallIdContention, DuplicateCall, ConnectionsStillExist, UnknownCall, NoShare, PathUnknownCall, NoPlaceLeft}
+use Rattle.answers.specs.declared.answer.Answer.the-variants.{TableBroken, BufferTooSmall, Malformed, SenderNotListed, UnderOtherCall, NotHeld, Late, CallOpened, CallAlreadyOpen, CallClosed, ConnectionAdded, ConnectionAlreadyHeld, ConnectionRemoved, CallIdContention, DuplicateCall, ConnectionsStillExist, UnknownCall, NoShare, PathUnknownCall, NoPlaceLeft}
 use Rattle.answers.specs.declared.answer.Reply.{Reply}
 use Rattle.answers.specs.declared.answer.Reply.the-variants.{Nothing, Notify, PathErr}
 use Rattle.answers.specs.declared.answer.AnswerRow.{AnswerRow}
@@ -27,6 +27,7 @@ rowOf (Malformed fault) = noReply (faultNumber fault)
 rowOf SenderNotListed = noReply 11
 rowOf UnderOtherCall = noReply 14
 rowOf NotHeld = noReply 15
+rowOf Late = noReply 16
 rowOf CallOpened = byNotify 20 0 0
 rowOf CallAlreadyOpen = byNotify 21 0 0
 rowOf CallClosed = byNotify 22 0 0

@@ -16,6 +16,8 @@ pub enum Answer {
     UnderOtherCall,
     // PathTear: of a connection not held.
     NotHeld,
+    // Notify: behind the last one accepted of its sender.
+    Late,
     CallOpened,
     CallAlreadyOpen,
     CallClosed,
@@ -96,6 +98,7 @@ pub fn row_of(a: Answer) -> AnswerRow
         Answer::SenderNotListed => no_reply(11),
         Answer::UnderOtherCall => no_reply(14),
         Answer::NotHeld => no_reply(15),
+        Answer::Late => no_reply(16),
         Answer::CallOpened => by_notify(20, 0, 0),
         Answer::CallAlreadyOpen => by_notify(21, 0, 0),
         Answer::CallClosed => by_notify(22, 0, 0),

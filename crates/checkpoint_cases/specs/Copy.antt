@@ -78,12 +78,30 @@ be places = record {
   places = places;
 }
 
--- 10.0.0.1, with what it holds under no call
-abbrev first : List ℕ → List Place → Customer
-first endpoints places = record { address = 0x0a000001; guarantee = 1; limit = 3; endpoints = endpoints; places = places }
+-- 10.0.0.1, with the last MESSAGE_ID that is kept of it, and what it holds under no call
+abbrev first : ℕ → ℕ → ℕ → List ℕ → List Place → Customer
+first kept epoch identifier endpoints places = record {
+  address = 0x0a000001;
+  guarantee = 1;
+  limit = 3;
+  kept = kept;
+  epoch = epoch;
+  identifier = identifier;
+  endpoints = endpoints;
+  places = places;
+}
 
 abbrev second : Customer
-second = record { address = 0x0a000002; guarantee = 2; limit = 4; endpoints = replicate 4 0; places = replicate 4 noPlace }
+second = record {
+  address = 0x0a000002;
+  guarantee = 2;
+  limit = 4;
+  kept = 0;
+  epoch = 0;
+  identifier = 0;
+  endpoints = replicate 4 0;
+  places = replicate 4 noPlace;
+}
 
 -- slots 0 and 5 are used
 abbrev tableWith : ℕ → ℕ → Customer → Call → Table
@@ -99,18 +117,18 @@ tableWith next time customer call = record {
   calls = alpha ∷ replicate 4 noCall ++ call ∷ replicate 194 noCall;
 }
 
--- as it is written: places 0 and 2 of the call and place 1 of the customer are taken
+-- as it is written: places 0 and 2 of the call and place 1 of the customer are taken, and a MESSAGE_ID is kept
 unfoldable pub tableBefore : Table
 tableBefore =
     tableWith 7 0xe1e2e3e4
-    (first (0 ∷ 0xc0a80c03 ∷ 0 ∷ 0 ∷ []) (noPlace ∷ place 0x0d0e 0x11121314 0x0f10 ∷ noPlace ∷ noPlace ∷ []))
+    (first 1 0xc1c2c3 0xf1f2f3f4 (0 ∷ 0xc0a80c03 ∷ 0 ∷ 0 ∷ []) (noPlace ∷ place 0x0d0e 0x11121314 0x0f10 ∷ noPlace ∷ noPlace ∷ []))
     (be (place 0x1516 0x21222324 0x1718 ∷ noPlace ∷ place 0x191a 0x31323334 0x1b1c ∷ noPlace ∷ []))
 
--- as it is read: places closed up, own identifiers from 1, the time at the latest refresh
+-- as it is read: places closed up, own identifiers from 1, the time at the latest refresh, no MESSAGE_ID kept (02, A8)
 unfoldable pub tableAfter : Table
 tableAfter =
     tableWith 1 0xd1d2d3d4
-    (first (0xc0a80c03 ∷ 0 ∷ 0 ∷ 0 ∷ []) (place 0x0d0e 0x11121314 0x0f10 ∷ noPlace ∷ noPlace ∷ noPlace ∷ []))
+    (first 0 0 0 (0xc0a80c03 ∷ 0 ∷ 0 ∷ 0 ∷ []) (place 0x0d0e 0x11121314 0x0f10 ∷ noPlace ∷ noPlace ∷ noPlace ∷ []))
     (be (place 0x1516 0x21222324 0x1718 ∷ place 0x191a 0x31323334 0x1b1c ∷ noPlace ∷ noPlace ∷ []))
 
 -- ---- written and read

@@ -178,7 +178,7 @@ fn stands(t: &Words, s: &[u8], i: usize) -> bool
     if request_in_use(t, s, i) {
         return false;
     }
-    if share_used_up(t, q.sender) {
+    if share_used_up(t, q.sender, m) {
         return false;
     }
     let look = look_up(t, s, q);

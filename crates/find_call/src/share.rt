@@ -2,9 +2,10 @@
 ghost use mathlib.Core.Path.{_≡_};
 ghost use Rattle.table.specs.Total.{totalOf};
 ghost use Rattle.table.specs.Lists.{roster, entries};
-ghost use Rattle.table.specs.Share.{isListed, guaranteeOf, limitOf, callsOf};
+ghost use Rattle.table.specs.Share.{callsOf};
 ghost use Rattle.table.specs.Words.{tableOf};
 ghost use Rattle.spec_calls.specs.CallRules.{shareUsedUp};
+ghost use Rattle.find_call.specs.Listed.{ListingOf};
 use lists::number_if;
 use lists::one_if;
 use lists::select;
@@ -19,24 +20,27 @@ use table_words::customers::customer_head;
 use table_words::head::form;
 use table_words::head::listed;
 
-// What the roster says of an address: whether it is listed, its guarantee and its limit.
+// What the roster says of an address: whether it is listed, in which record, its guarantee and its limit.
 pub struct Listing {
     pub known: bool,
+    pub place: usize,
     pub guarantee: usize,
     pub limit: usize,
 }
 
 pub fn listing_of(t: &Words, address: u32) -> Listing
-    ensures { λ r. ⌜ (r .known ≡ isListed (roster (tableOf (now (t .entry)))) address) × (r .guarantee ≡ guaranteeOf (roster (tableOf (now (t .entry)))) address) × (r .limit ≡ limitOf (roster (tableOf (now (t .entry)))) address) ⌝ }
+    ensures { λ r. ⌜ ListingOf (tableOf (now (t .entry))) address r ⌝ }
 {
     let n = listed(t);
     let mut known = false;
+    let mut place: usize = 0;
     let mut guarantee: usize = 0;
     let mut limit: usize = 0;
     let mut k: usize = 0;
     while k < CUSTOMERS {
         let m = customer_head(t, k);
         let here = (k < n) & (address == m.address);
+        place = select(here & !known, k, place);
         guarantee = select(known, guarantee, number_if(here, m.guarantee));
         limit = select(known, limit, number_if(here, m.limit));
         known = known | here;
@@ -44,6 +48,7 @@ pub fn listing_of(t: &Words, address: u32) -> Listing
     }
     Listing {
         known,
+        place,
         guarantee,
         limit,
     }
@@ -65,10 +70,11 @@ fn calls_of(t: &Words, address: u32) -> usize
 }
 
 // Answer 34: at the limit, or at the guarantee with no room left.
-pub fn share_used_up(t: &Words, sender: u32) -> bool
+// The caller has looked the sender up, and hands in what it found: the roster is not searched again.
+pub fn share_used_up(t: &Words, sender: u32, m: Listing) -> bool
+    requires { ⌜ ListingOf (tableOf (now t)) sender m ⌝ }
     ensures { λ r. ⌜ r ≡ shareUsedUp (totalOf (tableOf (now (t .entry)))) (roster (tableOf (now (t .entry)))) (entries (tableOf (now (t .entry)))) sender ⌝ }
 {
-    let m = listing_of(t, sender);
     let calls = calls_of(t, sender);
     let s = share_sums(t);
     (calls == m.limit) | ((m.guarantee <= calls) & (s.sum == total_for(form(t))))

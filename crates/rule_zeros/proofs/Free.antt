@@ -15,10 +15,11 @@ use Rattle.table.specs.Table.{Call, Customer, Table}
 use Rattle.table.specs.Total.{slots}
 use Rattle.table.specs.Word.{isUsed, FreeFrom}
 use Rattle.table.specs.Lists.{Four, callAt, callFour, customerFour, placeAt, isTaken}
-use Rattle.table.specs.Rules.{validIds, fourValid, requestTidy, callFreeClear, callClear, customerFreeClear, slotFreeClear, holds, namesAndIds, refreshesPast}
+use Rattle.table.specs.Rules.{validIds, fourValid, requestTidy, callFreeClear, callClear, keptTidy, customerFreeClear, slotFreeClear, holds, namesAndIds, refreshesPast}
 use Rattle.table_words.specs.Fours.{Alike}
-use Rattle.table_words.specs.Heads.{headOf}
+use Rattle.table_words.specs.Heads.{headOf, lastWordsOf}
 use Rattle.table_words.specs.declared.calls.CallHead.{CallHead}
+use Rattle.table_words.specs.declared.customers.LastWords.{LastWords}
 use Rattle.table_words.proofs.Alike.{alike-valid}
 
 neither : (x y : Bool) → (x || y) ≡ false → (x ≡ false) × (y ≡ false)
@@ -102,11 +103,16 @@ slots-tidy t n h free =
 
 -- ---- the roster's records
 
+-- the last MESSAGE_ID, by its three words
+pub kept-by-words : (m : Customer) (h : LastWords) (b : Bool) → h ≡ lastWordsOf m → eqb (h .kept) 1 ≡ b
+    → cond b (ltb (h .epoch) 0x1000000) (eqb (h .kept) 0 && eqb (h .epoch) 0 && eqb (h .identifier) 0) ≡ keptTidy m
+kept-by-words m h b e q = rw (← q, e)
+
 abbrev beside : Four → ℕ → Bool
 beside f j = isTaken (placeAt f j) || eqb (f .endpoint j) 0
 
-pub customer-by-four : (m : Customer) (f : Four) (v e : Bool) → Alike f (customerFour m) → v ≡ fourValid f → e ≡ everyBelow (beside f) 4
-    → (v && e) ≡ customerFreeClear m
+pub customer-by-four : (m : Customer) (f : Four) (k v e : Bool) → Alike f (customerFour m) → k ≡ keptTidy m → v ≡ fourValid f → e ≡ everyBelow (beside f) 4
+    → (k && v && e) ≡ customerFreeClear m
 unfolding customerFreeClear
-customer-by-four m f v e a p q =
-    rw (p, q, alike-valid f (customerFour m) a, every-same (beside f) (beside (customerFour m)) 4 (λ j l. rw (a .places, a .endpoint j l)))
+customer-by-four m f k v e a h p q =
+    rw (h, p, q, alike-valid f (customerFour m) a, every-same (beside f) (beside (customerFour m)) 4 (λ j l. rw (a .places, a .endpoint j l)))

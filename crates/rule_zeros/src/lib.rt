@@ -7,7 +7,7 @@ ghost use Rattle.lists.specs.Below.{everyBelow};
 ghost use Rattle.table.specs.Total.{slots};
 ghost use Rattle.table.specs.Word.{isUsed};
 ghost use Rattle.table.specs.Lists.{callAt, customerAt, placeAt, isTaken};
-ghost use Rattle.table.specs.Rules.{validIds, callFreeClear, callClear, customerFreeClear, customerClear, slotFreeClear, recordFreeClear, holds, namesAndIds, refreshesPast, freeHoldsZeros};
+ghost use Rattle.table.specs.Rules.{validIds, callFreeClear, callClear, keptTidy, customerFreeClear, customerClear, slotFreeClear, recordFreeClear, holds, namesAndIds, refreshesPast, freeHoldsZeros};
 ghost use Rattle.table.specs.Words.{tableOf};
 ghost use Rattle.table_words.specs.Fours.{fourAtWord, FourInside};
 ghost use Rattle.rule_zeros.specs.Masks.{pastMasks};
@@ -25,6 +25,7 @@ use table_words::calls::call_clear;
 use table_words::calls::call_head;
 use table_words::calls::calls_clear_from;
 use table_words::customers::customer_clear;
+use table_words::customers::last_words;
 use table_words::fours::FourPlace;
 use table_words::fours::call_four;
 use table_words::fours::customer_four;
@@ -103,12 +104,24 @@ fn endpoints_clear(t: &Words, f: FourPlace) -> bool
     clear
 }
 
+// A last MESSAGE_ID has an epoch of 24 bits; where none is kept there are zeros.
+fn kept_tidy(t: &Words, k: usize) -> bool
+    requires { ⌜ k < 8 ⌝ }
+    ensures { λ r. ⌜ r ≡ keptTidy (customerAt (tableOf (now (t .entry))) k) ⌝ }
+{
+    let m = last_words(t, k);
+    if m.kept == 1 {
+        return m.epoch < 16777216;
+    }
+    (m.kept == 0) & (m.epoch == 0) & (m.identifier == 0)
+}
+
 fn customer_free_clear(t: &Words, k: usize) -> bool
     requires { ⌜ k < 8 ⌝ }
     ensures { λ r. ⌜ r ≡ customerFreeClear (customerAt (tableOf (now (t .entry))) k) ⌝ }
 {
     let f = customer_four(t, k);
-    four_valid(t, f) & endpoints_clear(t, f)
+    kept_tidy(t, k) & four_valid(t, f) & endpoints_clear(t, f)
 }
 
 fn record_free_clear(t: &Words, listed: usize, k: usize) -> bool

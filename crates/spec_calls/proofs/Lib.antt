@@ -11,3 +11,5 @@ pub mod ComputedIds
 pub mod MadeName
 pub mod MadeFree
 pub mod MadeSame
+pub mod Late
+pub mod Untouched

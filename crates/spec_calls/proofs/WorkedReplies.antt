@@ -7,7 +7,7 @@ use mathlib.Core.Path.{_≡_, refl}
 use mathlib.Core.List.{List, [], _∷_, _++_}
 use Rattle.numbers.specs.Checksum.{firstWords, allRound, wordsSum}
 use Rattle.numbers.specs.Search.{isIn, zerosAt, unpadded}
-use Rattle.lists.specs.Below.{elementIf, listIf, below}
+use Rattle.lists.specs.Below.{elementIf, listIf, below, firstBelow}
 use Rattle.objects.specs.Classes.{passedOver, refusedClass}
 use Rattle.objects.specs.Forms.{hasForm, attributeFormed, formed, misformed}
 use Rattle.objects.specs.Item.{badLength, itemAt}
@@ -23,7 +23,7 @@ use Rattle.table.specs.Zeros.{noCall, noCustomer}
 use Rattle.table.specs.Share.{S}
 use Rattle.table.specs.Rules.{sameBytes, sameShort, sameLong, sameLsp}
 use Rattle.table.specs.Roster.{guaranteeIn, limitIn, customersFrom, freshTable}
-use Rattle.spec_calls.specs.Form.{listedOr11, formOf}
+use Rattle.spec_calls.specs.Form.{listedOr11, soundOr16, formOf}
 use Rattle.spec_calls.specs.CallRules.{shareUsedUp, openAnswer, closeAnswer}
 use Rattle.spec_calls.specs.PathRules.{addAnswer}
 use Rattle.spec_calls.specs.Handling.{answerFrom2, replyAfter}
@@ -69,7 +69,7 @@ pub opened-reply : replyOn (request 0x08)
     ≡ (0x10 ∷ 0x15 ∷ 0x9b ∷ 0x1f ∷ 0xff ∷ 0x00 ∷ 0x00 ∷ 0x60 ∷ []) ++ identifiers
     ++ (0x00 ∷ 0x0c ∷ 0x06 ∷ 0x01 ∷ 0x0a ∷ 0x00 ∷ 0x00 ∷ 0x02 ∷ 0x00 ∷ 0x00 ∷ 0x00 ∷ 0x00 ∷ []) ++ sessionObject
     ++ (0x00 ∷ 0x08 ∷ 0xc4 ∷ 0x01 ∷ 0x00 ∷ 0x00 ∷ 0x00 ∷ 0x08 ∷ []) ++ attributeObject ++ templateObject
-unfolding isIn zerosAt unpadded passedOver refusedClass hasForm attributeFormed formed misformed badLength itemAt seen objectsOf walkFrom walkOf badMessageLength checksumHolds typeOf headerOf notifyComplete pathComplete connectionIn requestAt isCallRequest isNameless badIdentity notifyOf pathOf readOf elementIf listIf below noCall noCustomer S sameBytes sameShort sameLong sameLsp isUsed guaranteeIn limitIn customersFrom freshTable listedOr11 formOf shareUsedUp openAnswer closeAnswer addAnswer replyAfter notifyBytes notifyBeforeChecksum pathErrBytes pathErrBeforeChecksum withChecksum checksumOf wordsSum allRound firstWords
+unfolding isIn zerosAt unpadded passedOver refusedClass hasForm attributeFormed formed misformed badLength itemAt seen objectsOf walkFrom walkOf badMessageLength checksumHolds typeOf headerOf notifyComplete pathComplete connectionIn requestAt isCallRequest isNameless badIdentity notifyOf pathOf readOf elementIf listIf below noCall noCustomer S sameBytes sameShort sameLong sameLsp isUsed guaranteeIn limitIn customersFrom freshTable firstBelow listedOr11 soundOr16 formOf shareUsedUp openAnswer closeAnswer addAnswer replyAfter notifyBytes notifyBeforeChecksum pathErrBytes pathErrBeforeChecksum withChecksum checksumOf wordsSum allRound firstWords
 opened-reply = refl
 
 -- a close with no such call is answered 32/3
@@ -77,7 +77,7 @@ pub unknown-reply : replyOn (request 0x09)
     ≡ (0x10 ∷ 0x15 ∷ 0x9a ∷ 0xfb ∷ 0xff ∷ 0x00 ∷ 0x00 ∷ 0x60 ∷ []) ++ identifiers
     ++ (0x00 ∷ 0x0c ∷ 0x06 ∷ 0x01 ∷ 0x0a ∷ 0x00 ∷ 0x00 ∷ 0x02 ∷ 0x00 ∷ 0x20 ∷ 0x00 ∷ 0x03 ∷ []) ++ sessionObject
     ++ (0x00 ∷ 0x08 ∷ 0xc4 ∷ 0x01 ∷ 0x00 ∷ 0x00 ∷ 0x00 ∷ 0x09 ∷ []) ++ attributeObject ++ templateObject
-unfolding isIn zerosAt unpadded passedOver refusedClass hasForm attributeFormed formed misformed badLength itemAt seen objectsOf walkFrom walkOf badMessageLength checksumHolds typeOf headerOf notifyComplete pathComplete connectionIn requestAt isCallRequest isNameless badIdentity notifyOf pathOf readOf elementIf listIf below noCall noCustomer S sameBytes sameShort sameLong sameLsp isUsed guaranteeIn limitIn customersFrom freshTable listedOr11 formOf shareUsedUp openAnswer closeAnswer addAnswer replyAfter notifyBytes notifyBeforeChecksum pathErrBytes pathErrBeforeChecksum withChecksum checksumOf wordsSum allRound firstWords
+unfolding isIn zerosAt unpadded passedOver refusedClass hasForm attributeFormed formed misformed badLength itemAt seen objectsOf walkFrom walkOf badMessageLength checksumHolds typeOf headerOf notifyComplete pathComplete connectionIn requestAt isCallRequest isNameless badIdentity notifyOf pathOf readOf elementIf listIf below noCall noCustomer S sameBytes sameShort sameLong sameLsp isUsed guaranteeIn limitIn customersFrom freshTable firstBelow listedOr11 soundOr16 formOf shareUsedUp openAnswer closeAnswer addAnswer replyAfter notifyBytes notifyBeforeChecksum pathErrBytes pathErrBeforeChecksum withChecksum checksumOf wordsSum allRound firstWords
 unknown-reply = refl
 
 -- ---- the worked example: a Path under a call that is not open
@@ -87,5 +87,5 @@ pub path-reply : replyOn
     ∷ 0x00 ∷ 0x0c ∷ 0x0b ∷ 0x07 ∷ 0x0a ∷ 0x00 ∷ 0x00 ∷ 0x01 ∷ 0x00 ∷ 0x00 ∷ 0x00 ∷ 0x01 ∷ [])
     ≡ 0x10 ∷ 0x03 ∷ 0xb6 ∷ 0x64 ∷ 0xff ∷ 0x00 ∷ 0x00 ∷ 0x30 ∷ 0x00 ∷ 0x10 ∷ 0x01 ∷ 0x07 ∷ 0x0a ∷ 0x00 ∷ 0x00 ∷ 0x02 ∷ 0x00 ∷ 0x05 ∷ 0x00 ∷ 0x01 ∷ 0x0a ∷ 0x00 ∷ 0x00 ∷ 0x01
     ∷ 0x00 ∷ 0x0c ∷ 0x06 ∷ 0x01 ∷ 0x0a ∷ 0x00 ∷ 0x00 ∷ 0x02 ∷ 0x00 ∷ 0x20 ∷ 0x00 ∷ 0x03 ∷ 0x00 ∷ 0x0c ∷ 0x0b ∷ 0x07 ∷ 0x0a ∷ 0x00 ∷ 0x00 ∷ 0x01 ∷ 0x00 ∷ 0x00 ∷ 0x00 ∷ 0x01 ∷ []
-unfolding isIn zerosAt unpadded passedOver refusedClass hasForm attributeFormed formed misformed badLength itemAt seen objectsOf walkFrom walkOf badMessageLength checksumHolds typeOf headerOf notifyComplete pathComplete connectionIn requestAt isCallRequest isNameless badIdentity notifyOf pathOf readOf elementIf listIf below noCall noCustomer S sameBytes sameShort sameLong sameLsp isUsed guaranteeIn limitIn customersFrom freshTable listedOr11 formOf shareUsedUp openAnswer closeAnswer addAnswer replyAfter notifyBytes notifyBeforeChecksum pathErrBytes pathErrBeforeChecksum withChecksum checksumOf wordsSum allRound firstWords
+unfolding isIn zerosAt unpadded passedOver refusedClass hasForm attributeFormed formed misformed badLength itemAt seen objectsOf walkFrom walkOf badMessageLength checksumHolds typeOf headerOf notifyComplete pathComplete connectionIn requestAt isCallRequest isNameless badIdentity notifyOf pathOf readOf elementIf listIf below noCall noCustomer S sameBytes sameShort sameLong sameLsp isUsed guaranteeIn limitIn customersFrom freshTable firstBelow listedOr11 soundOr16 formOf shareUsedUp openAnswer closeAnswer addAnswer replyAfter notifyBytes notifyBeforeChecksum pathErrBytes pathErrBeforeChecksum withChecksum checksumOf wordsSum allRound firstWords
 path-reply = refl

@@ -1,5 +1,5 @@
--- The tests 2 to 13, on what the caller hands in beside the table (01, Every answer): a fault of form, or the message
--- that has none.
+-- The tests 2 to 13 and 16, on what the caller hands in and on what is kept of the senders (01, Every answer; 02, A8): a
+-- fault of form, or the message that has none.
 use Prim.Native.Nat.{ℕ}
 use mathlib.Core.List.{List}
 use mathlib.Core.Bool.{cond}
@@ -13,7 +13,9 @@ use Rattle.reply_objects.specs.Buffer.{leastBuffer}
 use Rattle.table.specs.Lists.{Terms}
 use Rattle.table.specs.Share.{isListed}
 use Rattle.answers.specs.declared.answer.Answer.{Answer}
-use Rattle.answers.specs.declared.answer.Answer.the-variants.{BufferTooSmall, Malformed, SenderNotListed}
+use Rattle.spec_changes.specs.Last.{Last}
+use Rattle.answers.specs.declared.answer.Answer.the-variants.{BufferTooSmall, Malformed, SenderNotListed, Late}
+use Rattle.spec_calls.specs.Late.{isLateMessage}
 
 pub data Form : Type 0 where
   faulty : Answer → Form
@@ -29,12 +31,16 @@ senderOf (Drop c) = c .lsp .sender
 unfoldable pub listedOr11 : List Terms → ℕ → Form → Form
 listedOr11 r sender f = cond (isListed r sender) f (faulty SenderNotListed)
 
--- 3 to 10, then 11, then 12 and 13
-abbrev pub readForm : List Terms → Reading → Form
-readForm r (Refused fault offset headers) = faulty (Malformed fault)
-readForm r (Unfit fault sender headers) = listedOr11 r sender (faulty (Malformed fault))
-readForm r (Read message headers) = listedOr11 r (senderOf message) (sound message)
+-- 02, A8: 16 where a message that was read is late
+unfoldable pub soundOr16 : (ℕ → Last) → Message → Form
+soundOr16 k message = cond (isLateMessage k message) (faulty Late) (sound message)
+
+-- 3 to 10, then 11, then 12 and 13, then 16, by what is kept of each sender
+abbrev pub readForm : List Terms → (ℕ → Last) → Reading → Form
+readForm r k (Refused fault offset headers) = faulty (Malformed fault)
+readForm r k (Unfit fault sender headers) = listedOr11 r sender (faulty (Malformed fault))
+readForm r k (Read message headers) = listedOr11 r (senderOf message) (soundOr16 k message)
 
 -- 2 comes first, also for messages that never get a reply
-unfoldable pub formOf : List Terms → List ℕ → ℕ → Form
-formOf r message room = cond (ltb room leastBuffer) (faulty BufferTooSmall) (readForm r (readOf message))
+unfoldable pub formOf : List Terms → (ℕ → Last) → List ℕ → ℕ → Form
+formOf r k message room = cond (ltb room leastBuffer) (faulty BufferTooSmall) (readForm r k (readOf message))

@@ -23,10 +23,12 @@ use Rattle.table.specs.Lists.{roster, Ids, callAt, idsOf, entries, held}
 use Rattle.table.specs.Rules.{rulesHold}
 use Rattle.spec_changes.specs.Calls.{opened, slotOf, closed, refreshedAt, identifierTaken}
 use Rattle.spec_changes.specs.Connections.{added, removed}
+use Rattle.spec_changes.specs.Last.{lastOf, lastKept}
 use Rattle.spec_changes.specs.Expiry.{Closing, raised, closingsOf, elapsed}
 use Rattle.answers.specs.declared.answer.Answer.{Answer}
 use Rattle.answers.specs.declared.answer.Answer.the-variants.{TableBroken}
 use Rattle.answers.specs.Answers.{is, errorCode, errorValue, sendsNotify, sendsPathErr}
+use Rattle.spec_calls.specs.Late.{keeps}
 use Rattle.spec_calls.specs.Form.{Form, faulty, sound, formOf}
 use Rattle.spec_calls.specs.CallRules.{idsIn, nameless, isNamedBy, openAnswer, closeAnswer}
 use Rattle.spec_calls.specs.Made.{newFor}
@@ -45,9 +47,9 @@ abbrev pub formAnswer : Table → List ℕ → Form → Answer
 formAnswer t s (faulty a) = a
 formAnswer t s (sound m) = ruleAnswer t s m
 
--- tests 2 to 13, then the rules
+-- tests 2 to 13 and 16, then the rules
 abbrev pub answerFrom2 : Table → List ℕ → ℕ → Answer
-answerFrom2 t s room = formAnswer t s (formOf (roster t) s room)
+answerFrom2 t s room = formAnswer t s (formOf (roster t) (lastOf t) s room)
 
 -- ---- the table afterwards
 
@@ -65,12 +67,22 @@ changedBy t s (Drop c) a = cond (is 25 a) (removed t (lspOf (c .lsp))) t
 abbrev pub identified : Answer → Table → Table
 identified a t = cond (sendsNotify a) (identifierTaken t) t
 
+-- 02, A8: after an open or close that is answered 20 to 34, its sender's record has its MESSAGE_ID
+abbrev pub rememberedOf : CallRequest → Answer → Table → Table
+rememberedOf q a t = cond (keeps a) (lastKept t (q .sender) (q .sequence)) t
+
+abbrev pub remembered : Message → Answer → Table → Table
+remembered (Open q) a t = rememberedOf q a t
+remembered (Close q) a t = rememberedOf q a t
+remembered (Add c) a t = t
+remembered (Drop c) a t = t
+
 abbrev pub formTable : Table → List ℕ → Form → Answer → Table
 formTable t s (faulty _) a = t
-formTable t s (sound m) a = identified a (changedBy t s m a)
+formTable t s (sound m) a = remembered m a (identified a (changedBy t s m a))
 
 unfoldable pub tableAfter : Table → List ℕ → ℕ → Answer → Table
-tableAfter t s room a = formTable t s (formOf (roster t) s room) a
+tableAfter t s room a = formTable t s (formOf (roster t) (lastOf t) s room) a
 
 -- ---- the reply (01, Reply bytes)
 
@@ -120,7 +132,7 @@ formReply t s (sound m) a = replyTo t s m a
 
 -- no bytes where nothing is sent
 unfoldable pub replyAfter : Table → List ℕ → ℕ → Answer → List ℕ
-replyAfter t s room a = formReply t s (formOf (roster t) s room) a
+replyAfter t s room a = formReply t s (formOf (roster t) (lastOf t) s room) a
 
 -- ---- the message in the table that it finds
 

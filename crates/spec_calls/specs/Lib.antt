@@ -1,3 +1,4 @@
+pub mod Late
 pub mod Form
 pub mod CallRules
 pub mod Made

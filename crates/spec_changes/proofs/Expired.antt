@@ -22,6 +22,7 @@ use Rattle.table.specs.Share.{from, callsOf}
 use Rattle.table.specs.Rules.{rosterHolds, sameConnection, callFreeClear, callClear, slotFreeClear}
 use Rattle.table.proofs.Fresh.{free-clear}
 use Rattle.spec_changes.specs.Shape.{Shape}
+use Rattle.spec_changes.specs.Last.{lastOf}
 use Rattle.spec_changes.specs.Expiry.{Rising, raised, isIdle, isExpired, expiresAt, Closing, closingAt, closingsBelow, closingsOf, freedAll, elapsed}
 use Rattle.spec_changes.proofs.Kept.{Kept, calls-fewer}
 use Rattle.spec_changes.proofs.Freed.{Sized, isIn, Inside, withSlots, all-shape, all-used, all-call, all-else, all-entries}
@@ -261,6 +262,10 @@ module _ (t : Table) (time period : ℕ) where
   pub elapsed-roster : roster (elapsed t time period) ≡ roster t
   unfolding elapsed
   elapsed-roster = ap roster (all-else (raised t time) closings)
+
+  pub elapsed-last : (sender : ℕ) → lastOf (elapsed t time period) sender ≡ lastOf t sender
+  unfolding elapsed
+  elapsed-last sender = ap (λ (w : Table). lastOf w sender) (all-else (raised t time) closings)
 
   -- what the node says of itself: address, epoch and next identifier
   pub elapsed-own : (elapsed t time period .address ≡ t .address) × (elapsed t time period .epoch ≡ t .epoch) × (elapsed t time period .next ≡ t .next)

@@ -1,4 +1,4 @@
--- The table of a roster's bytes, accepted or refused, has the shape of every table.
+-- The table of a roster's bytes, accepted or refused, has the shape of every table; the fresh one keeps no MESSAGE_ID.
 -- Assumes nothing.
 use Prim.Native.Nat.{ℕ}
 use native.Mathlib.Omega.{arith}
@@ -12,9 +12,14 @@ use Rattle.table.specs.Table.{Customer}
 use Rattle.table.specs.Total.{slots}
 use Rattle.table.specs.Word.{FourWords}
 use Rattle.table.specs.Zeros.{noCall, noCustomer, emptyTable, pastCall, pastCustomer}
+use Rattle.table.specs.Lists.{roster}
+use Rattle.table.specs.Share.{isListed}
 use Rattle.table.specs.Roster.{customersIn, customerIn, customersFrom, freshTable}
 use Rattle.table.proofs.Fresh.{zero-at}
 use Rattle.spec_changes.specs.Shape.{Shape}
+use Rattle.spec_changes.specs.Connections.{customerOf}
+use Rattle.spec_changes.specs.Last.{none, keptIn, lastOf}
+use Rattle.spec_changes.proofs.Last.{listed-record}
 
 -- a record of the roster, or an unused one behind it
 abbrev recordAt : List ℕ → ℕ → Customer
@@ -42,6 +47,20 @@ fresh-shape s = record {
   endpoints = λ k h. rw (getD-each (recordAt s) 8 k pastCustomer h) (four-each s k .0);
   standalonePlaces = λ k h. rw (getD-each (recordAt s) 8 k pastCustomer h) (four-each s k .1);
 }
+
+none-kept : (s : List ℕ) (k : ℕ) → keptIn (recordAt s k) ≡ none
+unfolding noCustomer
+none-kept s k = by (ltb k (customersIn s))
+  where
+    by : (b : Bool) → keptIn (cond b (customerIn s k) noCustomer) ≡ none
+    by true = refl
+    by false = refl
+
+pub fresh-last : (s : List ℕ) (sender : ℕ) → isListed (roster (freshTable s)) sender ≡ true → lastOf (freshTable s) sender ≡ none
+unfolding freshTable customersFrom
+fresh-last s sender h =
+    let k = customerOf (freshTable s) sender in
+    rw (getD-each (recordAt s) 8 k pastCustomer (listed-record (freshTable s) sender h .inside)) (none-kept s k)
 
 pub empty-shape : Shape emptyTable
 unfolding emptyTable noCall noCustomer

@@ -3,7 +3,6 @@ pub mod Share
 pub mod Valid
 pub mod Kept
 pub mod Told
-pub mod Fresh
 pub mod Words
 pub mod Everywhere
 pub mod CallMissing
@@ -17,6 +16,8 @@ pub mod Under
 pub mod Added
 pub mod Removed
 pub mod Tables
+pub mod Last
+pub mod Fresh
 pub mod Freed
 pub mod Expired
 pub mod Refreshed

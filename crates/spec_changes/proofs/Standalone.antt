@@ -3,7 +3,7 @@
 use Prim.Native.Nat.{ℕ, _+_, _≤_, _<_}
 use native.Mathlib.Omega.{arith}
 use mathlib.Core.Path.{_≡_, refl, _∙_}
-use mathlib.Core.Bool.{Bool, true, false, cond, _||_}
+use mathlib.Core.Bool.{Bool, true, false, cond, _&&_, _||_}
 use lib.Dec.{ltb, eqb}
 use lib.ListN.{length, length-set}
 use lib.Seq.{getD-set-same, getD-set-other}
@@ -17,7 +17,7 @@ use Rattle.table.specs.Table.{Place, Customer, Table}
 use Rattle.table.specs.Total.{slots}
 use Rattle.table.specs.Zeros.{noPlace, pastCustomer}
 use Rattle.table.specs.Lists.{customerAt, termsOf, listedAt, roster, Held, customerFour, placeAt, isTaken, heldIn, heldAt, standaloneAt, held}
-use Rattle.table.specs.Rules.{rosterHolds, sameConnection, placeValid, fourValid, customerFreeClear, customerClear}
+use Rattle.table.specs.Rules.{rosterHolds, sameConnection, placeValid, fourValid, keptTidy, customerFreeClear, customerClear}
 use Rattle.table.specs.Stores.{withCustomer, withStandalonePlace}
 use Rattle.spec_changes.specs.Shape.{Shape}
 use Rattle.spec_changes.proofs.Kept.{Kept}
@@ -81,8 +81,9 @@ module _ (t : Table) (s : Shape t) (k j e : ℕ) (q : Place) (inside : k < 8) (k
   standalone-free-clear : placeValid q ≡ true → (isTaken q || eqb e 0) ≡ true → customerFreeClear c ≡ true → customerFreeClear d ≡ true
   unfolding customerFreeClear
   standalone-free-clear valid new old =
-      let b = both (fourValid (customerFour c)) _ old in
-      rw (places-valid (c .places) j q (s .standalonePlaces k inside) valid (b .0)) (every-within _ 4 (λ i h. beside new i h (every-at _ 4 (b .1) i h)))
+      let b = both (keptTidy c && fourValid (customerFour c)) _ old in
+      let v = both (keptTidy c) (fourValid (customerFour c)) (b .0) in
+      rw (v .0, places-valid (c .places) j q (s .standalonePlaces k inside) valid (v .1)) (every-within _ 4 (λ i h. beside new i h (every-at _ 4 (b .1) i h)))
 
   standalone-kept : placeValid q ≡ true → (isTaken q || eqb e 0) ≡ true → Kept t → ((x : Held) → countIf (sameConnection x) (held u) ≤ 1) → Kept u
   unfolding rosterHolds

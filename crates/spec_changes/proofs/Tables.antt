@@ -7,11 +7,11 @@ use mathlib.Core.Bool.{Bool, true, false, cond}
 use lib.Dec.{eqb}
 use Rattle.lists.specs.Count.{has}
 use Rattle.lists.specs.Below.{below, placeOf}
-use Rattle.table.specs.Table.{Call, Customer, Table}
+use Rattle.table.specs.Table.{Place, Call, Table}
 use Rattle.table.specs.Total.{slots}
-use Rattle.table.specs.Lists.{Ids, Lsp, Held, heldAt, standaloneAt}
+use Rattle.table.specs.Lists.{customerAt, Ids, Lsp, Held, heldAt, standaloneAt}
 use Rattle.table.specs.Rules.{isLsp}
-use Rattle.table.specs.Stores.{withSlot, withCustomer}
+use Rattle.table.specs.Stores.{withSlot, withCustomer, withStandalonePlace}
 use Rattle.spec_changes.specs.Calls.{isCall, slotOf, freed, closed}
 use Rattle.spec_changes.specs.Connections.{isCallOf, addedUnder, removedUnder, addedStandalone, removedStandalone, customerOf, added, removed}
 
@@ -48,14 +48,15 @@ pub closed-time : (t : Table) (c : Ids) → closed t c .time ≡ t .time
 unfolding freed
 closed-time t c = refl
 
--- what neither a call nor a customer stored changes, a connection added or removed does not change
-module _ {ℓ} {A : Type ℓ} (f : Table → A) (slot : (t : Table) (i : ℕ) (c : Call) → f (withSlot t (t .occupied) i c) ≡ f t) (customer : (t : Table) (k : ℕ) (c : Customer) → f (withCustomer t k c) ≡ f t) where
+-- what neither a call stored changes nor a place of a customer's four, a connection added or removed does not change
+module _ {ℓ} {A : Type ℓ} (f : Table → A) (slot : (t : Table) (i : ℕ) (c : Call) → f (withSlot t (t .occupied) i c) ≡ f t)
+    (customer : (t : Table) (k j e : ℕ) (p : Place) → f (withCustomer t k (withStandalonePlace (customerAt t k) j e p)) ≡ f t) where
   pub added-same : (t : Table) (x : Held) → f (added t x) ≡ f t
   unfolding added addedUnder addedStandalone
   added-same t x = by (eqb (x .call) 0)
     where
       by : (b : Bool) → f (cond b (addedStandalone t (customerOf t (x .lsp .sender)) (x .lsp)) (addedUnder t (slotOf t (isCallOf x)) (x .lsp))) ≡ f t
-      by true = customer t _ _
+      by true = customer t _ _ _ _
       by false = slot t _ _
 
   pub removed-same : (t : Table) (x : Lsp) → f (removed t x) ≡ f t
@@ -64,20 +65,20 @@ module _ {ℓ} {A : Type ℓ} (f : Table → A) (slot : (t : Table) (i : ℕ) (c
     where
       by : (b : Bool) → f (cond b (removedUnder t (placeOf (heldAt t) (isLsp x) slots) x) (removedStandalone t (placeOf (standaloneAt t) (isLsp x) 8) x)) ≡ f t
       by true = slot t _ _
-      by false = customer t _ _
+      by false = customer t _ _ _ _
 
 pub added-form : (t : Table) (x : Held) → added t x .form ≡ t .form
-added-form = added-same (λ (t : Table). t .form) (λ t i c. refl) (λ t k c. refl)
+added-form = added-same (λ (t : Table). t .form) (λ t i c. refl) (λ t k j e p. refl)
 
 pub added-time : (t : Table) (x : Held) → added t x .time ≡ t .time
-added-time = added-same (λ (t : Table). t .time) (λ t i c. refl) (λ t k c. refl)
+added-time = added-same (λ (t : Table). t .time) (λ t i c. refl) (λ t k j e p. refl)
 
 -- a connection added marks no slot
 pub added-words : (t : Table) (x : Held) → added t x .occupied ≡ t .occupied
-added-words = added-same (λ (t : Table). t .occupied) (λ t i c. refl) (λ t k c. refl)
+added-words = added-same (λ (t : Table). t .occupied) (λ t i c. refl) (λ t k j e p. refl)
 
 pub removed-form : (t : Table) (x : Lsp) → removed t x .form ≡ t .form
-removed-form = removed-same (λ (t : Table). t .form) (λ t i c. refl) (λ t k c. refl)
+removed-form = removed-same (λ (t : Table). t .form) (λ t i c. refl) (λ t k j e p. refl)
 
 pub removed-time : (t : Table) (x : Lsp) → removed t x .time ≡ t .time
-removed-time = removed-same (λ (t : Table). t .time) (λ t i c. refl) (λ t k c. refl)
+removed-time = removed-same (λ (t : Table). t .time) (λ t i c. refl) (λ t k j e p. refl)

@@ -25,8 +25,8 @@ module _ (w : List ℕ) where
     customers = length-each (λ k. customerAtWord w (customerStart k)) 8;
     words = used-fit w (λ k h. rw (used-at w k h) (omega (arith, fits (6 + 2 * k), fits (7 + 2 * k))));
     places = λ i h. rw (getD-each (λ i. callAtWord w (callStart i)) slots i pastCall h) (length-each (λ j. placeAtWord w (callStart i + 16 + 4 * j)) 4);
-    endpoints = λ k h. rw (getD-each (λ k. customerAtWord w (customerStart k)) 8 k pastCustomer h) (length-each (λ j. getD w (customerStart k + 3 + j) 0) 4);
-    standalonePlaces = λ k h. rw (getD-each (λ k. customerAtWord w (customerStart k)) 8 k pastCustomer h) (length-each (λ j. placeAtWord w (customerStart k + 7 + 4 * j)) 4);
+    endpoints = λ k h. rw (getD-each (λ k. customerAtWord w (customerStart k)) 8 k pastCustomer h) (length-each (λ j. getD w (customerStart k + 6 + j) 0) 4);
+    standalonePlaces = λ k h. rw (getD-each (λ k. customerAtWord w (customerStart k)) 8 k pastCustomer h) (length-each (λ j. placeAtWord w (customerStart k + 10 + 4 * j)) 4);
   }
 
   eight-words : (b : ℕ) → length (nameAtWord w b) ≡ 32

@@ -18,7 +18,7 @@ use Rattle.table.specs.Total.{slots}
 use Rattle.table.specs.Word.{isUsed}
 use Rattle.table.specs.Lists.{customerAt, termsOf, listedAt, roster, Ids, Entry, entryOf, callAt, openAt, entries, Held, Four, callFour, customerFour, placeAt, isTaken, connectionAt, heldPlace, heldIn, heldAt, standaloneAt, held}
 use Rattle.table.specs.Share.{isAt, isListed}
-use Rattle.table.specs.Rules.{unlisted, sameShort, placeValid, fourValid, requestTidy, callFreeClear, customerFreeClear}
+use Rattle.table.specs.Rules.{unlisted, sameShort, placeValid, fourValid, requestTidy, callFreeClear, keptTidy, customerFreeClear}
 use Rattle.spec_changes.specs.Connections.{sameFour, placeFor, isCallOf}
 use Rattle.spec_changes.proofs.Valid.{ids-named}
 use Rattle.spec_changes.proofs.Kept.{Kept}
@@ -163,7 +163,8 @@ module _ (t : Table) (k : Kept t) where
 
   pub standalone-valid : (i : ℕ) → i < 8 → ltb i (t .listed) ≡ true → fourValid (customerFour (customerAt t i)) ≡ true
   unfolding customerFreeClear
-  standalone-valid i l u = let h : customerFreeClear (customerAt t i) ≡ true = rw u at (k .records i l) in both (fourValid (customerFour (customerAt t i))) _ h .0
+  standalone-valid i l u = let h : customerFreeClear (customerAt t i) ≡ true = rw u at (k .records i l) in
+      both (keptTidy (customerAt t i)) _ (both (keptTidy (customerAt t i) && fourValid (customerFour (customerAt t i))) _ h .0) .1
 
   pub places-fit : countIf placeUnfit (held t) ≡ 0
   places-fit =

@@ -24,10 +24,10 @@ use Rattle.table.proofs.Within.{rules-within, used-within}
 use Rattle.table.proofs.Fresh.{all-free, fresh-holds, empty-holds, fresh-roster}
 use Rattle.spec_changes.proofs.Fresh.{fresh-shape}
 use Rattle.spec_promises.specs.Promises.{Agrees}
-use Rattle.spec_promises.proofs.Demand3.{accepted, demand3-from, agrees-from, connections-from}
+use Rattle.spec_promises.proofs.Demand3.{accepted, demand3-from, agrees-from, connections-from, fresh-remembers, last-agrees-from}
 use Rattle.spec_checkpoint.specs.Latest.{latestRefresh}
 use Rattle.spec_checkpoint.specs.Restored.{Restored, badSize, unrestored, fromCheckpoint, dropsNone, restored}
-use Rattle.spec_checkpoint.specs.Claims.{RestoredHolds, TimeRestored, SalvageAnswers, PlainSame, Plain72, OutsideDropped, Demand3Restored, AgreesRestored, ConnectionsRestored}
+use Rattle.spec_checkpoint.specs.Claims.{RestoredHolds, TimeRestored, SalvageAnswers, PlainSame, Plain72, OutsideDropped, Demand3Restored, LastForgotten, LastRestored, AgreesRestored, ConnectionsRestored}
 use Rattle.spec_checkpoint.proofs.Latest.{latest-none}
 use Rattle.spec_checkpoint.proofs.Closed.{closed-fresh}
 use Rattle.spec_checkpoint.proofs.Salvaged.{Sound, RecordsFit, bytes-fit, salvaged-sound}
@@ -36,7 +36,7 @@ use Rattle.spec_checkpoint.proofs.Salvaged.{Sound, RecordsFit, bytes-fi
 
 pub fresh-sound : (r : List ℕ) → Bytes r → rosterAnswer r ≡ Accepted → Sound r (freshTable r)
 unfolding freshTable
-fresh-sound r b e = record { shape = fresh-shape r; rules = fresh-holds r b e; roster = fresh-roster r e; form = refl; closed = closed-fresh r; time = sym (latest-none (freshTable r) all-free) }
+fresh-sound r b e = record { shape = fresh-shape r; rules = fresh-holds r b e; roster = fresh-roster r e; form = refl; closed = closed-fresh r; time = sym (latest-none (freshTable r) all-free); lasts = fresh-remembers r }
 
 pub checkpoint-sound : (r s : List ℕ) → Bytes r → RecordsFit s → rosterAnswer r ≡ Accepted → Sound r (fromCheckpoint r s .table)
 unfolding fromCheckpoint
@@ -152,14 +152,22 @@ restored-agrees salvage r s b d e =
 pub demand3-restored : Demand3Restored
 demand3-restored salvage r s b d e xs =
     let t = restored salvage r s .table in
-    rw (← (restored-sound salvage r s b d e .roster), ← (restored-total salvage r s b d e)) (demand3-from t (entries t) (restored-agrees salvage r s b d e) xs)
+    rw (← (restored-sound salvage r s b d e .roster), ← (restored-total salvage r s b d e)) (demand3-from t (entries t) (restored-agrees salvage r s b d e) (restored-sound salvage r s b d e .lasts) xs)
+
+pub last-forgotten : LastForgotten
+last-forgotten salvage r s b d e sender known = let i = restored-sound salvage r s b d e in i .lasts sender (rw (i .roster) known)
+
+pub last-restored : LastRestored
+last-restored salvage r s b d e xs =
+    let t = restored salvage r s .table in
+    last-agrees-from t (entries t) (restored-agrees salvage r s b d e) (restored-sound salvage r s b d e .lasts) xs
 
 pub agrees-restored : AgreesRestored
 agrees-restored salvage r s b d e xs =
     let t = restored salvage r s .table in
-    rw (← (restored-total salvage r s b d e)) (agrees-from t (entries t) (restored-agrees salvage r s b d e) xs)
+    rw (← (restored-total salvage r s b d e)) (agrees-from t (entries t) (restored-agrees salvage r s b d e) (restored-sound salvage r s b d e .lasts) xs)
 
 pub connections-restored : ConnectionsRestored
 connections-restored salvage r s b d e xs =
     let t = restored salvage r s .table in
-    connections-from t (entries t) (restored-agrees salvage r s b d e) xs
+    connections-from t (entries t) (restored-agrees salvage r s b d e) (restored-sound salvage r s b d e .lasts) xs

@@ -4,7 +4,7 @@ use Prim.Native.Nat.{ℕ, zero, suc, _+_, _*_, _≤_, _<_}
 use native.Mathlib.Nat.{le-refl}
 use native.Mathlib.Omega.{arith}
 use mathlib.Core.Path.{_≡_, refl, sym, ap, _∙_}
-use mathlib.Core.List.{List}
+use mathlib.Core.List.{List, []}
 use mathlib.Core.Bool.{Bool, true, false, cond, not, _&&_}
 use lib.Dec.{eqb}
 use lib.ListN.{length, replicate}
@@ -28,7 +28,10 @@ use Rattle.spec_changes.specs.Connections.{placeFor, added, callMissing}
 use Rattle.spec_changes.proofs.Valid.{valid-place}
 use Rattle.spec_changes.proofs.Added.{MayAdd, added-roster, added-shape, added-kept}
 use Rattle.spec_changes.proofs.Tables.{added-form, added-time}
+use Rattle.spec_changes.proofs.Last.{last-added}
 use Rattle.spec_changes.proofs.Told.{rules-kept, kept-rules}
+use Rattle.spec_promises.specs.Ledger.{lastIn}
+use Rattle.spec_promises.specs.Promises.{Remembers}
 use Rattle.spec_checkpoint.specs.Layout.{Slotted, callsIn, connectionsIn, callRecord, connectionRecord}
 use Rattle.spec_checkpoint.specs.Places.{ClosedUp}
 use Rattle.spec_checkpoint.specs.Latest.{latestRefresh}
@@ -45,6 +48,7 @@ pub record Sound (r : List ℕ) (t : Table) : Type 0 where
   pub form : t .form ≡ formIn r
   pub closed : ClosedUp t
   pub time : t .time ≡ latestRefresh t
+  pub lasts : Remembers t (lastIn [])
 
 -- a table where a test passes, the one before where it does not
 either : (P : Table → Type 0) (b : Bool) (t u : Table) → P u → (b ≡ true → P t) → P (cond b t u)
@@ -69,6 +73,7 @@ call-sound r t c h p f i =
       form = placed-form t c ∙ i .form;
       closed = closed-placed t c (i .shape) h p (i .closed);
       time = omega (arith, i .time, placed-latest t c (i .shape .calls) (i .shape .words .four) h (not-true _ (k .0)) (places-bare (c .call) p));
+      lasts = i .lasts;
     }
 
 pub calls-sound : (r : List ℕ) (fresh : Table) (s : List ℕ) → Sound r fresh → (n : ℕ) → Sound r (withCalls fresh s n)
@@ -110,6 +115,7 @@ connection-sound r t x v f i =
       form = added-form t x ∙ i .form;
       closed = closed-added t x (i .shape) m (i .closed);
       time = added-time t x ∙ i .time ∙ sym (refreshes-stay t x (i .shape) (rules-kept t (i .rules)) m (i .closed));
+      lasts = λ sender known. last-added sender t x ∙ i .lasts sender (rw (added-roster t x (i .shape) m) at known);
     }
 
 -- each connection record has IDs that a place may have

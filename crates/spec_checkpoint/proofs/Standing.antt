@@ -96,8 +96,8 @@ call-four-clear c h =
 customer-four-clear : (c : Customer) → customerClear c ≡ true → fourClear (customerFour c) ≡ true
 unfolding customerClear
 customer-four-clear c h =
-    let a = both (eqb (c .address) 0 && eqb (c .guarantee) 0 && eqb (c .limit) 0 && fourClear (customerFour c)) _ h in
-    both (eqb (c .address) 0 && eqb (c .guarantee) 0 && eqb (c .limit) 0) (fourClear (customerFour c)) (a .0) .1
+    let numbers = eqb (c .address) 0 && eqb (c .guarantee) 0 && eqb (c .limit) 0 && eqb (c .kept) 0 && eqb (c .epoch) 0 && eqb (c .identifier) 0 in
+    both numbers (fourClear (customerFour c)) (both (numbers && fourClear (customerFour c)) _ h .0) .1
 
 module _ (t : Table) (k : Kept t) where
   free-slot-four : (i : ℕ) → i < slots → isUsed (t .occupied) i ≡ false → heldIn (callFour (callAt t i)) ≡ []

@@ -16,13 +16,14 @@ use Rattle.table.specs.Word.{isUsed}
 use Rattle.table.specs.Zeros.{emptyTable}
 use Rattle.table.specs.Lists.{customerAt, roster, callAt, Entry, entries, callFour, customerFour, heldIn, Held, held}
 use Rattle.table.specs.Words.{tableOf}
-use Rattle.table.specs.Share.{S}
+use Rattle.table.specs.Share.{isListed, S}
 use Rattle.table.specs.Rules.{sameRequest, rulesHold}
 use Rattle.table.specs.Roster.{formIn, customersIn, totalIn, recordsIn, rosterNumber, rosterAnswer, freshTable}
 use Rattle.spec_changes.specs.Shape.{Shape}
-use Rattle.spec_promises.specs.Ledger.{ledger}
+use Rattle.spec_changes.specs.Last.{none, lastOf}
+use Rattle.spec_promises.specs.Ledger.{ledger, lastIn}
 use Rattle.spec_promises.specs.Connections.{connectionsAfter}
-use Rattle.spec_promises.specs.Promises.{Input, AtEveryStep, Promised, Agrees}
+use Rattle.spec_promises.specs.Promises.{Input, AtEveryStep, Promised, Agrees, Remembers}
 use Rattle.spec_checkpoint.specs.Layout.{Slotted, callsIn, connectionsIn, callRecord, checkpointOf}
 use Rattle.spec_checkpoint.specs.Places.{ClosedUp, withoutPlaces}
 use Rattle.spec_checkpoint.specs.Latest.{latestRefresh}
@@ -213,6 +214,19 @@ abbrev pub Demand3Restored : Type 0
 Demand3Restored =
     (salvage : Bool) (r s : List ℕ) → Bytes r → Bytes s → rosterNumber (rosterAnswer r) ≡ 0 → (xs : List Input)
     → AtEveryStep (Promised (totalIn r) (recordsIn r (customersIn r)) (entries (restored salvage r s .table))) (restored salvage r s .table) [] xs
+
+-- "A8's identifiers are forgotten": a table that was read keeps none of any customer, so that the first Notify of each is
+-- taken. Not so of a node that finds a customer's Notify late by what it was sent before the restart
+abbrev pub LastForgotten : Type 0
+LastForgotten =
+    (salvage : Bool) (r s : List ℕ) → Bytes r → Bytes s → rosterNumber (rosterAnswer r) ≡ 0 → (sender : ℕ) → isListed (recordsIn r (customersIn r)) sender ≡ true
+    → lastOf (restored salvage r s .table) sender ≡ none
+
+-- and from then on it keeps what messages and answers since say
+abbrev pub LastRestored : Type 0
+LastRestored =
+    (salvage : Bool) (r s : List ℕ) → Bytes r → Bytes s → rosterNumber (rosterAnswer r) ≡ 0 → (xs : List Input)
+    → AtEveryStep (λ u h x. Remembers u (lastIn h)) (restored salvage r s .table) [] xs
 
 -- all along such a run the table keeps the rules and has the calls of that ledger
 abbrev pub AgreesRestored : Type 0

@@ -11,22 +11,26 @@ use Rattle.lists.specs.Count.{countIf, has, without}
 use Rattle.lists.proofs.Tests.{both}
 use Rattle.lists.proofs.Search.{not-only}
 use Rattle.lists.proofs.Count.{some-bit, count-le, without-same, count-gone}
+use Rattle.objects.specs.declared.fields.MessageId.{MessageId}
 use Rattle.table.specs.Table.{Table}
 use Rattle.table.specs.Total.{slots, totalOf}
 use Rattle.table.specs.Word.{isUsed, lowestFree}
 use Rattle.table.specs.Lists.{roster, Ids, Entry, callAt, entryOf, entries, Lsp, Held, held}
+use Rattle.table.specs.Share.{isListed}
 use Rattle.table.specs.Rules.{rosterHolds, sameShort, sameLong, isLsp, rulesHold}
 use Rattle.table.proofs.Slots.{lowest-below, lowest-here}
 use Rattle.table.proofs.Within.{total-most}
 use Rattle.spec_changes.specs.Calls.{New, entryFor, opened, isCall, slotOf, closed, refreshedAt, identifierTaken}
 use Rattle.spec_changes.specs.Connections.{added, removed, isUnder}
 use Rattle.spec_changes.specs.Expiry.{raised, closingsOf, elapsed}
+use Rattle.spec_changes.specs.Last.{lastKept}
 use Rattle.spec_changes.proofs.Kept.{Kept, MayOpen, room-for}
 use Rattle.spec_changes.proofs.Told.{roster-kept, rules-kept, kept-rules}
 use Rattle.spec_changes.proofs.Opened.{slot-used, free-slot, opened-entries, opened-held, opened-shape, Fits, opened-kept}
 use Rattle.spec_changes.proofs.Closed.{closed-slot, closed-entries, closed-shape, closed-kept}
 use Rattle.spec_changes.proofs.Refreshed.{refreshed-entries, refreshed-shape, refreshed-kept}
 use Rattle.spec_changes.proofs.Freed.{shape-sized}
+use Rattle.spec_changes.proofs.Last.{listed-record, last-shape, last-entries, last-rules}
 use Rattle.spec_changes.proofs.Expired.{elapsed-shape, elapsed-entries, elapsed-kept}
 use Rattle.spec_changes.proofs.Added.{MayAdd, added-entries, added-shape, added-kept}
 use Rattle.spec_changes.proofs.Removed.{removed-entries, removed-shape, removed-kept}
@@ -128,6 +132,15 @@ module _ (t : Table) (l : List Entry) (g : Agrees t l) where
     shape = elapsed-shape t time period (g .shape);
     rules = kept-rules (elapsed t time period) (elapsed-kept t time period (shape-sized t (g .shape)) kept);
     calls = λ p. ap (countIf p) (elapsed-entries t time period (shape-sized t (g .shape))) ∙ without-same (isClosed (closingsOf (raised t time) period)) (entries t) l (g .calls) p;
+  }
+
+  -- ---- a last MESSAGE_ID is kept (02, A8)
+
+  pub last-agrees : (sender : ℕ) (id : MessageId) → isListed (roster t) sender ≡ true → id .epoch < 0x1000000 → Agrees (lastKept t sender id) l
+  last-agrees sender id known fits = record {
+    shape = last-shape t sender id (g .shape);
+    rules = kept-rules (lastKept t sender id) (last-rules t sender id (listed-record t sender known) (g .shape) fits kept);
+    calls = λ p. ap (countIf p) (last-entries t sender id) ∙ g .calls p;
   }
 
   -- ---- connections come and go

@@ -38,8 +38,9 @@ use Rattle.spec_changes.proofs.Told.{rules-kept, kept-rules}
 use Rattle.spec_changes.proofs.Freed.{shape-sized, isIn}
 use Rattle.spec_changes.proofs.Expired.{elapsed-own, elapsed-call, elapsed-kept}
 use Rattle.answers.specs.declared.answer.Answer.{Answer}
-use Rattle.answers.specs.declared.answer.Answer.the-variants.{TableBroken, BufferTooSmall, Malformed, SenderNotListed, UnderOtherCall, NotHeld, CallOpened, CallAlreadyOpen, CallClosed, ConnectionAdded, ConnectionAlreadyHeld, ConnectionRemoved, CallIdContention, DuplicateCall, ConnectionsStillExist, UnknownCall, NoShare, PathUnknownCall, NoPlaceLeft}
+use Rattle.answers.specs.declared.answer.Answer.the-variants.{TableBroken, BufferTooSmall, Malformed, SenderNotListed, UnderOtherCall, NotHeld, Late, CallOpened, CallAlreadyOpen, CallClosed, ConnectionAdded, ConnectionAlreadyHeld, ConnectionRemoved, CallIdContention, DuplicateCall, ConnectionsStillExist, UnknownCall, NoShare, PathUnknownCall, NoPlaceLeft}
 use Rattle.answers.specs.Answers.{is, errorCode, errorValue, sendsNotify, sendsPathErr}
+use Rattle.spec_changes.specs.Last.{Last, lastOf}
 use Rattle.spec_calls.specs.Form.{Form, faulty, sound, formOf}
 use Rattle.spec_calls.specs.Handling.{formAnswer, errorFor, ownId, notifyFor, pathErrFor, answeredIds, answerFrom2, formReply, replyAfter}
 use Rattle.spec_calls.specs.CallRules.{idsIn, nameless, openAnswer, closeAnswer}
@@ -59,6 +60,7 @@ error-fits (Malformed f) = (omega arith, omega arith)
 error-fits SenderNotListed = (omega arith, omega arith)
 error-fits UnderOtherCall = (omega arith, omega arith)
 error-fits NotHeld = (omega arith, omega arith)
+error-fits Late = (omega arith, omega arith)
 error-fits CallOpened = (omega arith, omega arith)
 error-fits CallAlreadyOpen = (omega arith, omega arith)
 error-fits CallClosed = (omega arith, omega arith)
@@ -172,21 +174,21 @@ broken-reply t s (sound (Close q)) = refl
 broken-reply t s (sound (Add c)) = refl
 broken-reply t s (sound (Drop c)) = refl
 
-too-short : (r : List Terms) (s : List ℕ) (room : ℕ) → ltb room leastBuffer ≡ true → formOf r s room ≡ faulty BufferTooSmall
+too-short : (r : List Terms) (k : ℕ → Last) (s : List ℕ) (room : ℕ) → ltb room leastBuffer ≡ true → formOf r k s room ≡ faulty BufferTooSmall
 unfolding formOf
-too-short r s room e = rw e
+too-short r k s room e = rw e
 
 -- in a buffer of any length: in one that is too short nothing is written
 module _ (t : Table) (s buffer : List ℕ) where
   abbrev form : Form
-  form = formOf (roster t) s (length buffer)
+  form = formOf (roster t) (lastOf t) s (length buffer)
 
   kept-fits : rulesHold t ≡ true → length (formReply t s form (formAnswer t s form)) ≤ length buffer
   kept-fits h = by (ltb (length buffer) leastBuffer) refl
     where
       by : (b : Bool) → ltb (length buffer) leastBuffer ≡ b → length (formReply t s form (formAnswer t s form)) ≤ length buffer
-      by true e = rw (too-short (roster t) s (length buffer) e) (omega arith)
-      by false e = form-fits t s buffer (ltb-false _ _ e) h form (form-says (roster t) s (length buffer))
+      by true e = rw (too-short (roster t) (lastOf t) s (length buffer) e) (omega arith)
+      by false e = form-fits t s buffer (ltb-false _ _ e) h form (form-says (roster t) (lastOf t) s (length buffer))
 
   pub message-fits : rulesHold t ≡ true → length (replyAfter t s (length buffer) (answerFrom2 t s (length buffer))) ≤ length buffer
   unfolding replyAfter
@@ -242,10 +244,10 @@ module _ (t : Table) (s buffer : List ℕ) (bytes : Bytes s) (address : t .addre
     where
       by : (b : Bool) → ltb (length buffer) leastBuffer ≡ b → wordsSum (formReply t s (form t s buffer) (formAnswer t s (form t s buffer))) ≡ 65535
       by true e =
-          let none : formReply t s (form t s buffer) (formAnswer t s (form t s buffer)) ≡ [] = rw (too-short (roster t) s (length buffer) e) in
+          let none : formReply t s (form t s buffer) (formAnswer t s (form t s buffer)) ≡ [] = rw (too-short (roster t) (lastOf t) s (length buffer) e) in
           let z : ⊥ = omega (arith, some, ap length none) in
           absurd z
-      by false e = form-sum t s buffer (ltb-false _ _ e) h bytes address next names (form t s buffer) (form-says (roster t) s (length buffer)) some
+      by false e = form-sum t s buffer (ltb-false _ _ e) h bytes address next names (form t s buffer) (form-says (roster t) (lastOf t) s (length buffer)) some
 
 -- a free slot's name is bytes too
 no-name : Bytes (noCall .name)

@@ -26,23 +26,25 @@ use Rattle.table.specs.Roster.{rosterNumber, customersIn, totalIn, recordsIn, r
 use Rattle.table.proofs.Fresh.{fresh-holds, fresh-roster, fresh-entries, fresh-held}
 use Rattle.spec_changes.specs.Calls.{isCall}
 use Rattle.spec_changes.proofs.Told.{roster-kept, guarantee-within, rules-kept}
-use Rattle.spec_changes.proofs.Fresh.{fresh-shape}
+use Rattle.spec_changes.specs.Last.{Last, none, lastOf}
+use Rattle.spec_changes.proofs.Fresh.{fresh-shape, fresh-last}
 use Rattle.answers.specs.declared.answer.Answer.{Answer}
 use Rattle.answers.specs.Answers.{answerNumber, is}
 use Rattle.spec_calls.specs.Form.{Form, faulty, sound, formOf}
 use Rattle.spec_calls.specs.CallRules.{idsIn, isRetry, shortTaken, longTaken}
 use Rattle.spec_calls.specs.PathRules.{lspOf, heldBy}
 use Rattle.spec_calls.specs.Handling.{formAnswer, answerFrom2}
-use Rattle.spec_promises.specs.Ledger.{Fed, fourOf, withOpened, feed, dropped, ledger, answered, lapsed}
+use Rattle.spec_promises.specs.Ledger.{Fed, fourOf, withOpened, feed, dropped, ledger, feedLast, lastIn, answered, lapsed}
 use Rattle.spec_promises.specs.Connections.{heldOf, feedHeld, connectionsAfter}
-use Rattle.spec_promises.specs.Promises.{Input, fed, tableThen, tableFound, AtEveryStep, dueAnswer, Promised, Agrees}
-use Rattle.spec_promises.specs.Claims.{Demand3, Demand3From, AgreesThroughout, AgreesFrom, ConnectionsThroughout, ConnectionsFrom}
+use Rattle.spec_promises.specs.Promises.{Input, fed, tableThen, tableFound, AtEveryStep, dueAnswer, Promised, Agrees, Remembers}
+use Rattle.spec_promises.specs.Claims.{Demand3, Demand3From, AgreesThroughout, AgreesFrom, LastAgrees, LastAgreesFrom, OvertakenClose, ConnectionsThroughout, ConnectionsFrom}
 use Rattle.spec_calls.proofs.Decided.{open-never, open-same, close-never, add-never, drop-never}
 use Rattle.spec_promises.proofs.Due.{open-due}
 use Rattle.spec_promises.proofs.Formed.{Says, form-says}
 use Rattle.spec_promises.proofs.Step.{found-agrees, found-roster, found-total, answer-found, step-agrees, step-roster, step-opens, step-closes, step-held}
 use Rattle.spec_promises.proofs.Named.{form-stays, found-sound, retry-is-21, setup-cause}
 use Rattle.spec_promises.proofs.Lapsed.{found-counted, closings-promised}
+use Rattle.spec_promises.proofs.Late.{form-same, step-last, late-unchanged, overtaken}
 
 -- ---- opened is count and closed
 
@@ -99,7 +101,7 @@ module _ (t : Table) (l : List Entry) (g : Agrees t l) where
     never-one = eqb-false _ _ (by (tableFound t x) (fed t x .answer) (answer-found t l g x))
       where
         by : (u : Table) (a : Answer) → a ≡ answerFrom2 u (x .message) (length (x .buffer)) → is 1 a ≡ false
-        by u a e = rw e (form-never-1 u (x .message) (formOf (roster u) (x .message) (length (x .buffer))) (form-says (roster u) (x .message) (length (x .buffer))))
+        by u a e = rw e (form-never-1 u (x .message) (formOf (roster u) (lastOf u) (x .message) (length (x .buffer))) (form-says (roster u) (lastOf u) (x .message) (length (x .buffer))))
 
     -- a customer's calls are those that the closings leave and those that they list
     lapsed-counted : (a : ℕ) → callsOf l a ≡ callsOf found a + countIf (λ c. eqb (c .address) a) (fed t x .closings)
@@ -120,14 +122,14 @@ module _ (t : Table) (l : List Entry) (g : Agrees t l) where
         let n = step-agrees t l g x in
         rw (← (n .calls (from a)), ← (step-roster t l g x)) (rules-kept (tableThen t x) (n .rules) .calls .limits a (rw (step-roster t l g x) known))
 
-    due : (q : CallRequest) → formOf (roster t) (x .message) (length (x .buffer)) ≡ sound (Open q)
+    due : (q : CallRequest) → formOf (roster t) (lastOf t) (x .message) (length (x .buffer)) ≡ sound (Open q)
         → isRetry found (x .message) q ≡ false → longTaken found (x .message) q ≡ false → shortTaken found (x .message) q ≡ false
         → answerNumber (fed t x .answer) ≡ dueAnswer (totalOf t) (roster t) found (q .sender)
     due q e a b c =
         by (tableFound t x) (fed t x .answer) found (found-total t l g x) (found-roster t l g x) (answer-found t l g x) (found-sound t l g x q e) (found-agrees t l g x) a b c
       where
         by : (u : Table) (d : Answer) (k : List Entry) → totalOf u ≡ totalOf t → roster u ≡ roster t → d ≡ answerFrom2 u (x .message) (length (x .buffer))
-            → formOf (roster u) (x .message) (length (x .buffer)) ≡ sound (Open q) → Agrees u k
+            → formOf (roster u) (lastOf u) (x .message) (length (x .buffer)) ≡ sound (Open q) → Agrees u k
             → isRetry k (x .message) q ≡ false → longTaken k (x .message) q ≡ false → shortTaken k (x .message) q ≡ false
             → answerNumber d ≡ dueAnswer (totalOf t) (roster t) k (q .sender)
         by u d k n r e f h a b c =
@@ -152,16 +154,21 @@ module _ (t : Table) (start : List Entry) (h : List Fed) (x : Input) where
         counted t entered g x a (callsOf start a + answered 20 a h) (answered 22 a h + lapsed a h + countIf (λ c. eqb (c .address) a) (fed t x .closings)) (omega (arith, u a, lapsed-counted t entered g x a)),
       )
 
-  step-promised : Agrees t entered → Counted (totalOf t) start h → Promised (totalOf t) (roster t) start t h x
-  step-promised g u = record {
+  -- a message of no fault by the list has none by the table
+  no-fault : Remembers t (lastIn h) → (q : CallRequest) → formOf (roster t) (lastIn h) (x .message) (length (x .buffer)) ≡ sound (Open q)
+      → formOf (roster t) (lastOf t) (x .message) (length (x .buffer)) ≡ sound (Open q)
+  no-fault rem q e = form-same t h rem (x .message) (length (x .buffer)) ∙ e
+
+  step-promised : Agrees t entered → Remembers t (lastIn h) → Counted (totalOf t) start h → Promised (totalOf t) (roster t) start t h x
+  step-promised g rem u = record {
     neverOne = never-one t entered g x;
     defined = answer-found t entered g x;
     closings = closings-promised t entered g x;
     counted = step-counted g u;
     limited = limited t entered g x;
-    due = due t entered g x;
-    retried = λ q e known. retry-is-21 t entered g x q e known .0;
-    caused = setup-cause t entered g x;
+    due = λ q e. due t entered g x q (no-fault rem q e);
+    retried = λ q e known. retry-is-21 t entered g x q (no-fault rem q e) known .0;
+    caused = λ q e. setup-cause t entered g x q (no-fault rem q e);
   }
 
 -- what holds at every point of a run that began with this total and roster, these entries and these connections
@@ -169,6 +176,7 @@ record Running (total : ℕ) (r : List Terms) (start : List Entry) (lit : List H
   pub totalIs : totalOf t ≡ total
   pub roster : roster t ≡ r
   pub agrees : Agrees t (ledger total start h)
+  pub lasts : Remembers t (lastIn h)
   pub counted : Counted total start h
   pub connections : (p : Held → Bool) → countIf p (held t) ≡ countIf p (connectionsAfter lit h)
 
@@ -189,6 +197,8 @@ module _ (total : ℕ) (r : List Terms) (start : List Entry) (lit : List Held) w
     totalIs = ap totalFor (form-stays t x) ∙ i .totalIs;
     roster = step-roster t (ledger total start h) (i .agrees) x ∙ i .roster;
     agrees = subst (λ n. Agrees (tableThen t x) (feed n (fed t x) (dropped (fed t x .closings) (ledger total start h)))) (i .totalIs) (step-agrees t (ledger total start h) (i .agrees) x);
+    lasts = λ sender known. let known : isListed (roster t) sender ≡ true = rw (step-roster t (ledger total start h) (i .agrees) x) at known in
+        step-last t (ledger total start h) (i .agrees) x sender known ∙ ap (λ (k : Last). feedLast sender (fed t x) k) (i .lasts sender known);
     counted = subst (λ n. Agrees t (ledger n start h) → Counted n start h → Counted n start (fed t x ∷ h)) (i .totalIs) (step-counted t start h x) (i .agrees) (i .counted);
     connections = λ p. step-held t (ledger total start h) (i .agrees) x p ∙ feed-same (fed t x) (held t) (connectionsAfter lit h) (i .connections) p;
   }
@@ -202,22 +212,25 @@ module _ (total : ℕ) (r : List Terms) (start : List Entry) (lit : List Held) w
   promised : (t : Table) (h : List Fed) (x : Input) → Running total r start lit t h → Promised total r start t h x
   promised t h x i =
       subst (λ r. Promised total r start t h x) (i .roster)
-      (subst (λ n. Agrees t (ledger n start h) → Counted n start h → Promised n (roster t) start t h x) (i .totalIs) (step-promised t start h x) (i .agrees) (i .counted))
+      (subst (λ n. Agrees t (ledger n start h) → Remembers t (lastIn h) → Counted n start h → Promised n (roster t) start t h x) (i .totalIs) (step-promised t start h x) (i .agrees) (i .lasts) (i .counted))
 
 -- ---- from any table that agrees with a ledger's entries at the start
 
-module _ (t : Table) (start : List Entry) (g : Agrees t start) (xs : List Input) where
+module _ (t : Table) (start : List Entry) (g : Agrees t start) (rem : Remembers t (lastIn [])) (xs : List Input) where
   from-start : (P : Table → List Fed → Input → Type 0) → ((u : Table) (h : List Fed) (x : Input) → Running (totalOf t) (roster t) start (held t) u h → P u h x) → AtEveryStep P t [] xs
-  from-start P f = at-every-step (totalOf t) (roster t) start (held t) P f xs t [] (record { totalIs = refl; roster = refl; agrees = g; counted = λ a. refl; connections = λ p. refl })
+  from-start P f = at-every-step (totalOf t) (roster t) start (held t) P f xs t [] (record { totalIs = refl; roster = refl; agrees = g; lasts = rem; counted = λ a. refl; connections = λ p. refl })
 
 pub demand3-from : Demand3From
-demand3-from t start g xs = from-start t start g xs _ (promised (totalOf t) (roster t) start (held t))
+demand3-from t start g rem xs = from-start t start g rem xs _ (promised (totalOf t) (roster t) start (held t))
 
 pub agrees-from : AgreesFrom
-agrees-from t start g xs = from-start t start g xs _ (λ u h x i. i .agrees)
+agrees-from t start g rem xs = from-start t start g rem xs _ (λ u h x i. i .agrees)
+
+pub last-agrees-from : LastAgreesFrom
+last-agrees-from t start g rem xs = from-start t start g rem xs _ (λ u h x i. i .lasts)
 
 pub connections-from : ConnectionsFrom
-connections-from t start g xs = from-start t start g xs _ (λ u h x i. i .connections)
+connections-from t start g rem xs = from-start t start g rem xs _ (λ u h x i. i .connections)
 
 -- ---- from the table of an accepted roster, which has no calls and no connections
 
@@ -239,6 +252,13 @@ table-agrees : (s : List ℕ) → Bytes s → rosterNumber (rosterAnswer s) ≡ 
 unfolding tableFor
 table-agrees s bytes e = let a = accepted (rosterAnswer s) e in rw a (fresh-agrees s bytes a)
 
+pub fresh-remembers : (s : List ℕ) → Remembers (freshTable s) (lastIn [])
+fresh-remembers s sender known = fresh-last s sender known
+
+table-remembers : (s : List ℕ) → rosterNumber (rosterAnswer s) ≡ 0 → Remembers (tableFor (rosterAnswer s) s) (lastIn [])
+unfolding tableFor
+table-remembers s e = let a = accepted (rosterAnswer s) e in rw a (fresh-remembers s)
+
 table-roster : (s : List ℕ) → rosterNumber (rosterAnswer s) ≡ 0 → roster (tableFor (rosterAnswer s) s) ≡ recordsIn s (customersIn s)
 unfolding tableFor
 table-roster s e = let a = accepted (rosterAnswer s) e in rw a (fresh-roster s a)
@@ -252,14 +272,27 @@ unfolding tableFor
 table-held s e = let a = accepted (rosterAnswer s) e in rw a (fresh-held s)
 
 pub demand3 : Demand3
-demand3 s bytes e xs = rw (← (table-roster s e), ← (table-total s e)) (demand3-from (tableFor (rosterAnswer s) s) [] (table-agrees s bytes e) xs)
+demand3 s bytes e xs = rw (← (table-roster s e), ← (table-total s e)) (demand3-from (tableFor (rosterAnswer s) s) [] (table-agrees s bytes e) (table-remembers s e) xs)
 
 -- what holds of a table that agrees with a ledger holds all along such a run
 pub agrees-throughout : AgreesThroughout
-agrees-throughout s bytes e xs = rw (← (table-total s e)) (agrees-from (tableFor (rosterAnswer s) s) [] (table-agrees s bytes e) xs)
+agrees-throughout s bytes e xs = rw (← (table-total s e)) (agrees-from (tableFor (rosterAnswer s) s) [] (table-agrees s bytes e) (table-remembers s e) xs)
+
+pub last-agrees : LastAgrees
+last-agrees s bytes e xs = last-agrees-from (tableFor (rosterAnswer s) s) [] (table-agrees s bytes e) (table-remembers s e) xs
+
+-- the overtaken close has no other fault, so that its sender is listed
+pub overtaken-close : OvertakenClose
+overtaken-close s bytes e xs =
+    from-start (tableFor (rosterAnswer s) s) [] (table-agrees s bytes e) (table-remembers s e) xs _
+    (λ t h x i q c o.
+    let m = rw (o .closing) at (form-says (roster t) (λ sender. none) (x .message) (length (x .buffer))) in
+    let known : isListed (roster t) (q .sender) ≡ true = rw (o .sender) at (m .known) in
+    let late = overtaken t _ (i .agrees) h (i .lasts) x q c o known in
+    (ap answerNumber late, ap entries (late-unchanged t x (ap (is 16) late) .0)))
 
 pub connections-throughout : ConnectionsThroughout
 connections-throughout s bytes e xs =
     let t = tableFor (rosterAnswer s) s in
     subst (λ lit. AtEveryStep (λ u h x. (p : Held → Bool) → countIf p (held u) ≡ countIf p (connectionsAfter lit h)) t [] xs) (table-held s e)
-    (connections-from t [] (table-agrees s bytes e) xs)
+    (connections-from t [] (table-agrees s bytes e) (table-remembers s e) xs)

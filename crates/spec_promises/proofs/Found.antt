@@ -23,9 +23,11 @@ use Rattle.table.specs.Share.{isListed}
 use Rattle.table.specs.Rules.{rulesHold}
 use Rattle.spec_changes.specs.Expiry.{Closing, raised, closingsOf, elapsed}
 use Rattle.answers.specs.declared.answer.Answer.{Answer}
-use Rattle.answers.specs.declared.answer.Answer.the-variants.{TableBroken, BufferTooSmall, Malformed, SenderNotListed}
+use Rattle.answers.specs.declared.answer.Answer.the-variants.{TableBroken, BufferTooSmall, Malformed, SenderNotListed, Late}
 use Rattle.answers.specs.Answers.{is}
-use Rattle.spec_calls.specs.Form.{Form, faulty, sound, senderOf, listedOr11, readForm, formOf}
+use Rattle.spec_changes.specs.Last.{lastOf}
+use Rattle.spec_calls.specs.Late.{isLateMessage}
+use Rattle.spec_calls.specs.Form.{Form, faulty, sound, senderOf, listedOr11, soundOr16, readForm, formOf}
 use Rattle.spec_calls.specs.CallRules.{idsIn}
 use Rattle.spec_calls.specs.PathRules.{lspOf, heldBy}
 use Rattle.spec_calls.specs.Handling.{formAnswer, answerFrom2, tableAfter, replyAfter, answeredAs, answeredIn, Handled, handledAfter}
@@ -65,10 +67,18 @@ module _ (t : Table) (s : List ℕ) where
       by true = h
       by false = refl
 
-  read-later : (r : Reading) → atOnce (formAnswer t s (readForm (roster t) r)) ≡ false
+  late-later : (m : Message) → atOnce (formAnswer t s (soundOr16 (lastOf t) m)) ≡ false
+  unfolding soundOr16
+  late-later m = by (isLateMessage (lastOf t) m)
+    where
+      by : (b : Bool) → atOnce (formAnswer t s (cond b (faulty Late) (sound m))) ≡ false
+      by true = refl
+      by false = sound-later m
+
+  read-later : (r : Reading) → atOnce (formAnswer t s (readForm (roster t) (lastOf t) r)) ≡ false
   read-later (Refused fault offset headers) = fault-later fault
   read-later (Unfit fault sender headers) = listed-later sender (faulty (Malformed fault)) (fault-later fault)
-  read-later (Read m headers) = listed-later (senderOf m) (sound m) (sound-later m)
+  read-later (Read m headers) = listed-later (senderOf m) (soundOr16 (lastOf t) m) (late-later m)
 
   answer-later : (room : ℕ) → ltb room leastBuffer ≡ false → atOnce (answerFrom2 t s room) ≡ false
   unfolding formOf

@@ -7,6 +7,7 @@ pub mod Connections
 pub mod Named
 pub mod Busy
 pub mod Lapsed
+pub mod Late
 pub mod Demand3
 pub mod Buffer
 pub mod Made

@@ -32,6 +32,7 @@ use Rattle.spec_changes.proofs.Told.{rules-kept}
 use Rattle.answers.specs.declared.answer.Answer.{Answer}
 use Rattle.answers.specs.declared.answer.Answer.the-variants.{CallAlreadyOpen}
 use Rattle.answers.specs.Answers.{answerNumber, is, sendsNotify}
+use Rattle.spec_changes.specs.Last.{lastOf}
 use Rattle.spec_calls.specs.Form.{sound, formOf}
 use Rattle.spec_calls.specs.CallRules.{nameless, isMadeBy, isRetry}
 use Rattle.spec_calls.specs.Made.{madeFor, newFor}
@@ -117,7 +118,7 @@ opened-sends a h = (by (sendsNotify a) refl, rw (eqb-true (answerNumber a) 20 h)
     by true e = e
     by false e = absurd (true≢false (sym h ∙ notified a e .0))
 
-carried : (u : Table) (x : Input) (q : CallRequest) (a : Answer) → formOf (roster u) (x .message) (length (x .buffer)) ≡ sound (Open q) → nameless q ≡ true
+carried : (u : Table) (x : Input) (q : CallRequest) (a : Answer) → formOf (roster u) (lastOf u) (x .message) (length (x .buffer)) ≡ sound (Open q) → nameless q ≡ true
     → sendsNotify a ≡ true → is 34 a ≡ false
     → replyAfter u (x .message) (length (x .buffer)) a
     ≡ notifyMadeBytes (x .message) (notifyFor (u .address) (ownId u) q callBit a) (answeredIds u (x .message) q a .short) (answeredIds u (x .message) q a .long)
@@ -130,7 +131,7 @@ own-same : (t : Table) (x : Input) (q : CallRequest) (a : Answer) (b : Bool)
 own-same t x q a true = refl
 own-same t x q a false = rw (elapsed-own t (x .time) (x .period) .0, elapsed-own t (x .time) (x .period) .1, elapsed-own t (x .time) (x .period) .2)
 
-replies-with : (t : Table) (l : List Entry) (g : Agrees t l) (x : Input) (q : CallRequest) (c : Ids) → formOf (roster t) (x .message) (length (x .buffer)) ≡ sound (Open q) → nameless q ≡ true
+replies-with : (t : Table) (l : List Entry) (g : Agrees t l) (x : Input) (q : CallRequest) (c : Ids) → formOf (roster t) (lastOf t) (x .message) (length (x .buffer)) ≡ sound (Open q) → nameless q ≡ true
     → sendsNotify (fed t x .answer) ≡ true → is 34 (fed t x .answer) ≡ false → answeredIds (tableFound t x) (x .message) q (fed t x .answer) ≡ c → RepliesWith t x q c
 replies-with t l g x q c e n sends other same =
     carried (tableFound t x) x q (fed t x .answer) (found-sound t l g x q e) n sends other
@@ -187,7 +188,7 @@ made-entered t l g x q e n h = (newFor (entries u) s q .ids, entry, replies-with
     u = tableFound t x
 
     i : Says (roster t) s (sound (Open q))
-    i = rw e at (form-says (roster t) s (length (x .buffer)))
+    i = rw e at (form-says (roster t) (lastOf t) s (length (x .buffer)))
 
     sends : (sendsNotify (fed t x .answer) ≡ true) × (is 34 (fed t x .answer) ≡ false)
     sends = opened-sends (fed t x .answer) h

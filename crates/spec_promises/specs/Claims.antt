@@ -2,33 +2,37 @@
 -- in proofs/ under the same name, written with hyphens. The node that each rules out is named beside it.
 use Prim.Native.Nat.{ℕ, max, _-_, _*_, _≤_, _<_}
 use mathlib.Core.Path.{_≡_}
-use mathlib.Core.List.{List, []}
-use mathlib.Core.Bool.{Bool, true, false, cond, _&&_}
+use mathlib.Core.List.{List, [], _∷_, _++_}
+use mathlib.Core.Bool.{Bool, true, false, cond, _&&_, _||_}
 use lib.ListN.{length, take, drop}
 use Rattle.numbers.specs.BigEndian.{Bytes}
 use Rattle.numbers.specs.Checksum.{wordsSum}
 use Rattle.lists.specs.Count.{countIf, has}
 use Rattle.messages.specs.declared.message.CallRequest.{CallRequest}
-use Rattle.messages.specs.declared.message.Message.the-variants.{Open}
+use Rattle.messages.specs.declared.message.Message.the-variants.{Open, Close}
+use Rattle.messages.specs.declared.read.Reading.the-variants.{Read}
+use Rattle.messages.specs.Read.{readOf}
 use Rattle.messages.specs.Status.{callBit}
 use Rattle.replies.specs.Messages.{notifyMadeBytes}
 use Rattle.table.specs.Table.{Table}
 use Rattle.table.specs.Total.{slots, totalOf}
 use Rattle.table.specs.Word.{isUsed}
-use Rattle.table.specs.Lists.{roster, Ids, Entry, callAt, entries, Held, held}
+use Rattle.table.specs.Lists.{Terms, roster, Ids, Entry, callAt, entries, Held, held}
 use Rattle.table.specs.Rules.{rulesHold}
 use Rattle.table.specs.Roster.{rosterNumber, customersIn, totalIn, recordsIn, rosterAnswer, tableFor}
 use Rattle.spec_changes.specs.Shape.{Shape}
 use Rattle.spec_changes.specs.Calls.{isCall, slotOf, refreshedAt, identifierTaken}
 use Rattle.spec_changes.specs.Connections.{callMissing, isUnder}
 use Rattle.spec_changes.specs.Expiry.{Closing, isIdle}
+use Rattle.spec_changes.specs.Last.{none, isKept, lastOf, lastKept}
 use Rattle.answers.specs.Answers.{answerNumber, is, sendsNotify}
+use Rattle.spec_calls.specs.Late.{isBehind, keeps}
 use Rattle.spec_calls.specs.Form.{sound, formOf}
 use Rattle.spec_calls.specs.CallRules.{nameless, isMadeBy, isNamedBy, isOpen, isRetry}
 use Rattle.spec_calls.specs.Handling.{ownId, notifyFor, replyAfter}
-use Rattle.spec_promises.specs.Ledger.{Fed, feed, dropped, ledger}
+use Rattle.spec_promises.specs.Ledger.{Fed, feed, dropped, ledger, lastFrom, lastIn}
 use Rattle.spec_promises.specs.Connections.{connectionsAfter, isHeld, isTornDown, isSetUp}
-use Rattle.spec_promises.specs.Promises.{Input, handledBy, fed, tableThen, atOnce, tableFound, AtEveryStep, sameClosing, Promised, Agrees, Unchanged, Cause}
+use Rattle.spec_promises.specs.Promises.{Input, handledBy, fed, tableThen, atOnce, tableFound, AtEveryStep, sameClosing, Promised, Agrees, Remembers, Unchanged, Cause}
 
 -- ---- the runs that claims are about
 
@@ -36,9 +40,9 @@ use Rattle.spec_promises.specs.Promises.{Input, handledBy, fed, tableThe
 abbrev pub FromEveryRoster : (List ℕ → Table → List Fed → Input → Type 0) → Type 0
 FromEveryRoster P = (s : List ℕ) → Bytes s → rosterNumber (rosterAnswer s) ≡ 0 → (xs : List Input) → AtEveryStep (P s) (tableFor (rosterAnswer s) s) [] xs
 
--- from any table that agrees with a ledger's entries at the start
+-- from any table that agrees with a ledger's entries at the start and keeps no MESSAGE_ID
 abbrev pub FromEveryAgreement : (Table → List Entry → Table → List Fed → Input → Type 0) → Type 0
-FromEveryAgreement P = (t : Table) (start : List Entry) → Agrees t start → (xs : List Input) → AtEveryStep (P t start) t [] xs
+FromEveryAgreement P = (t : Table) (start : List Entry) → Agrees t start → Remembers t (lastIn []) → (xs : List Input) → AtEveryStep (P t start) t [] xs
 
 -- one message, from any table that agrees with a ledger; such a table stands at every step (`AgreesThroughout`)
 abbrev pub AtOneMessage : (Table → List Entry → Input → Type 0) → Type 0
@@ -60,6 +64,18 @@ AgreesThroughout = FromEveryRoster (λ s t h x. Agrees t (ledger (totalIn s) [] 
 
 abbrev pub AgreesFrom : Type 0
 AgreesFrom = FromEveryAgreement (λ first start t h x. Agrees t (ledger (totalOf first) start h))
+
+-- what is kept of a sender is what messages and answers say (02, A8), all along a run: a node that keeps a Path's
+-- MESSAGE_ID, or one in another customer's record, is none
+abbrev pub LastAgrees : Type 0
+LastAgrees = FromEveryRoster (λ s t h x. Remembers t (lastIn h))
+
+abbrev pub LastAgreesFrom : Type 0
+LastAgreesFrom = FromEveryAgreement (λ first start t h x. Remembers t (lastIn h))
+
+-- so that a message has a fault by the list where it has one by the table, and the same
+abbrev pub FormSame : Type 0
+FormSame = (t : Table) (h : List Fed) → Remembers t (lastIn h) → (s : List ℕ) (room : ℕ) → formOf (roster t) (lastOf t) s room ≡ formOf (roster t) (lastIn h) s room
 
 -- any table, any message: the roster's form stays, and with it the total. A node that lets a customer of form 1 have what
 -- only form 2 has room for, once some message has come, is none
@@ -138,15 +154,17 @@ TimeRises = (t : Table) (x : Input) → tableThen t x .time ≡ cond (atOnce (fe
 
 -- ---- retries and refusals
 
--- 02, A7: a 21 sets the refresh of the call that the setup is for to the node's time, and takes the next own identifier. All
--- else is as it was found: no second copy, no call lost
+-- a 21 sets the refresh of the call that the setup is for to the node's time (02, A7), takes the next own identifier, and
+-- keeps the setup's MESSAGE_ID (02, A8). All else is as it was found: no second copy, no call lost
 abbrev pub Refreshed : Table → Input → CallRequest → Type 0
-Refreshed t x q = tableThen t x ≡ identifierTaken (refreshedAt (tableFound t x) (slotOf (tableFound t x) (isNamedBy (x .message) q)))
+Refreshed t x q =
+    tableThen t x
+    ≡ lastKept (identifierTaken (refreshedAt (tableFound t x) (slotOf (tableFound t x) (isNamedBy (x .message) q)))) (q .sender) (q .sequence)
 
 -- a setup that repeats a call that is open after the closings, by its IDs or, without names, by its two numbers, is
 -- answered 21. A node that opens it a second time, or lets a call go that is asked for in time, is none
 abbrev pub RetryIs21 : Type 0
-RetryIs21 = AtOneMessage (λ t l x. (q : CallRequest) → formOf (roster t) (x .message) (length (x .buffer)) ≡ sound (Open q)
+RetryIs21 = AtOneMessage (λ t l x. (q : CallRequest) → formOf (roster t) (lastOf t) (x .message) (length (x .buffer)) ≡ sound (Open q)
     → isRetry (dropped (fed t x .closings) l) (x .message) q ≡ true → (answerNumber (fed t x .answer) ≡ 21) × Refreshed t x q)
 
 -- ---- calls that the node made (02, A6)
@@ -164,7 +182,7 @@ RepliesWith t x q c =
 -- a setup without names that is answered 20 is entered so, with the IDs that its reply carries. Not so of a node that makes
 -- one name and keeps another, forgets the numbers, or sends the empty name back
 abbrev pub MadeEntered : Type 0
-MadeEntered = AtOneMessage (λ t l x. (q : CallRequest) → formOf (roster t) (x .message) (length (x .buffer)) ≡ sound (Open q) → nameless q ≡ true
+MadeEntered = AtOneMessage (λ t l x. (q : CallRequest) → formOf (roster t) (lastOf t) (x .message) (length (x .buffer)) ≡ sound (Open q) → nameless q ≡ true
     → is 20 (fed t x .answer) ≡ true
     → (c : Ids) × (has (isMadeWith q c) (feed (totalOf t) (fed t x) (dropped (fed t x .closings) l)) ≡ true) × RepliesWith t x q c)
 
@@ -172,13 +190,13 @@ MadeEntered = AtOneMessage (λ t l x. (q : CallRequest) → formOf (roster t) (x
 -- it is answered 21, its reply carries the same IDs, and nothing but its call's refresh changes. Not so of a node that
 -- opens the call a second time, or whose reply to the retry has another name, or the empty one
 abbrev pub MadeRetryIs21 : Type 0
-MadeRetryIs21 = AtOneMessage (λ t l x. (q : CallRequest) (c : Ids) → formOf (roster t) (x .message) (length (x .buffer)) ≡ sound (Open q) → nameless q ≡ true
+MadeRetryIs21 = AtOneMessage (λ t l x. (q : CallRequest) (c : Ids) → formOf (roster t) (lastOf t) (x .message) (length (x .buffer)) ≡ sound (Open q) → nameless q ≡ true
     → has (isMadeWith q c) (dropped (fed t x .closings) l) ≡ true
     → (answerNumber (fed t x .answer) ≡ 21) × RepliesWith t x q c × Refreshed t x q)
 
 -- a setup that is refused had to be: each refusal has its cause in the ledger (01, Every answer)
 abbrev pub SetupCause : Type 0
-SetupCause = AtOneMessage (λ t l x. (q : CallRequest) → formOf (roster t) (x .message) (length (x .buffer)) ≡ sound (Open q)
+SetupCause = AtOneMessage (λ t l x. (q : CallRequest) → formOf (roster t) (lastOf t) (x .message) (length (x .buffer)) ≡ sound (Open q)
     → Cause (totalOf t) (roster t) (dropped (fed t x .closings) l) (x .message) q (answerNumber (fed t x .answer)))
 
 -- any table, any message: after the closings only 20, 22, 23 and 25 change calls or connections, and 21 a refresh
@@ -192,6 +210,40 @@ RefusedUnchanged = (t : Table) (x : Input)
 abbrev pub QuietUnchanged : Type 0
 QuietUnchanged = (t : Table) (x : Input)
     → sendsNotify (fed t x .answer) ≡ false → is 23 (fed t x .answer) ≡ false → is 25 (fed t x .answer) ≡ false → tableThen t x ≡ tableFound t x
+
+-- ---- late messages (02, A8)
+
+-- any table: 16 leaves the table as it was found after the closings, the whole of it, and the buffer. A node that keeps a
+-- late message's MESSAGE_ID, refreshes a call by it or answers it is none
+abbrev pub LateUnchanged : Type 0
+LateUnchanged = (t : Table) (x : Input) → is 16 (fed t x .answer) ≡ true
+    → (tableThen t x ≡ tableFound t x) × (handledBy t x .buffer ≡ x .buffer) × (handledBy t x .length ≡ 0)
+
+-- a Notify of a sender that was accepted
+abbrev pub isAccepted : ℕ → Fed → Bool
+isAccepted sender e = keeps (e .answer) && isKept (lastFrom sender (e .message))
+
+-- an open was answered 20 or 21, no Notify of its sender was accepted since, and now a close of that sender comes, of the
+-- same epoch and behind the open; it has no other fault
+pub record Overtaken (r : List Terms) (h : List Fed) (x : Input) (q c : CallRequest) : Type 0 where
+  pub since : List Fed
+  pub setup : Fed
+  pub before : List Fed
+  pub headers : ℕ
+  pub fedThen : h ≡ since ++ setup ∷ before
+  pub opening : readOf (setup .message) ≡ Read (Open q) headers
+  pub taken : (is 20 (setup .answer) || is 21 (setup .answer)) ≡ true
+  pub quiet : has (isAccepted (q .sender)) since ≡ false
+  pub closing : formOf r (λ sender. none) (x .message) (length (x .buffer)) ≡ sound (Close c)
+  pub sender : c .sender ≡ q .sender
+  pub epoch : c .sequence .epoch ≡ q .sequence .epoch
+  pub behind : isBehind (q .sequence .identifier) (c .sequence .identifier) ≡ true
+
+-- it is answered 16, and takes out no call: those that nobody refreshed are gone before any message. A node in which an
+-- overtaken old close undoes a newer open is none
+abbrev pub OvertakenClose : Type 0
+OvertakenClose = FromEveryRoster (λ s t h x. (q c : CallRequest) → Overtaken (roster t) h x q c
+    → (answerNumber (fed t x .answer) ≡ 16) × (entries (tableThen t x) ≡ entries (tableFound t x)))
 
 -- ---- the reply buffer
 

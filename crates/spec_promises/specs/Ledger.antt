@@ -14,8 +14,10 @@ use Rattle.messages.specs.Read.{readOf}
 use Rattle.table.specs.Lists.{Ids, Entry}
 use Rattle.spec_changes.specs.Calls.{entryFor, isCall}
 use Rattle.spec_changes.specs.Expiry.{Closing}
+use Rattle.spec_changes.specs.Last.{Last, none, last}
 use Rattle.answers.specs.declared.answer.Answer.{Answer}
 use Rattle.answers.specs.Answers.{is}
+use Rattle.spec_calls.specs.Late.{keeps}
 use Rattle.spec_calls.specs.CallRules.{idsIn}
 use Rattle.spec_calls.specs.Made.{newFor}
 
@@ -83,6 +85,39 @@ dropped closings l = without (isClosed closings) l
 abbrev pub ledger : ℕ → List Entry → List Fed → List Entry
 ledger total start [] = start
 ledger total start (e ∷ h) = feed total e (dropped (e .closings) (ledger total start h))
+
+-- ---- the last MESSAGE_ID of a sender (02, A8)
+
+-- the one of an open or close of that sender
+abbrev pub messageLast : ℕ → Message → Last
+messageLast sender (Open q) = cond (eqb (q .sender) sender) (last (q .sequence)) none
+messageLast sender (Close q) = cond (eqb (q .sender) sender) (last (q .sequence)) none
+messageLast sender (Add c) = none
+messageLast sender (Drop c) = none
+
+abbrev pub readLast : ℕ → Reading → Last
+readLast sender (Refused fault offset headers) = none
+readLast sender (Unfit fault other headers) = none
+readLast sender (Read message headers) = messageLast sender message
+
+unfoldable pub lastFrom : ℕ → List ℕ → Last
+lastFrom sender s = readLast sender (readOf s)
+
+-- the first of two, where there is one
+abbrev pub orLast : Last → Last → Last
+orLast none k = k
+orLast (last id) k = last id
+
+-- an open or close that is answered 20 to 34 leaves its MESSAGE_ID; every other message leaves what was kept
+abbrev pub feedLast : ℕ → Fed → Last → Last
+feedLast sender e k = cond (keeps (e .answer)) (orLast (lastFrom sender (e .message)) k) k
+
+-- what is kept of a sender after what was fed, the latest first: by messages and answers alone
+abbrev pub lastIn : List Fed → ℕ → Last
+lastIn [] sender = none
+lastIn (e ∷ h) sender = feedLast sender e (lastIn h sender)
+
+-- ---- what was answered, and how often
 
 -- how often a message of a sender was answered by a number: 20 is opened, 22 closed
 abbrev pub answered : ℕ → ℕ → List Fed → ℕ

@@ -2,7 +2,7 @@
 use Prim.Native.Nat.{ℕ, _+_, _≤_}
 use mathlib.Core.Path.{_≡_}
 use mathlib.Core.Logic.{_⊎_, _≢_}
-use mathlib.Core.List.{List, [], _∷_}
+use mathlib.Core.List.{List, [], _∷_, map}
 use mathlib.Core.Bool.{Bool, true, false, cond, _&&_, _||_}
 use lib.Dec.{ltb, eqb}
 use lib.ListN.{length}
@@ -11,18 +11,19 @@ use Rattle.numbers.specs.Search.{isIn}
 use Rattle.lists.specs.Count.{countIf, has}
 use Rattle.messages.specs.declared.message.CallRequest.{CallRequest}
 use Rattle.messages.specs.declared.message.Message.the-variants.{Open}
-use Rattle.table.specs.Table.{Table}
-use Rattle.table.specs.Lists.{Terms, Entry, entries}
+use Rattle.table.specs.Table.{Customer, Table}
+use Rattle.table.specs.Lists.{Terms, roster, Entry, entries}
 use Rattle.table.specs.Share.{isListed, guaranteeOf, limitOf, callsOf, S}
 use Rattle.table.specs.Rules.{rulesHold}
 use Rattle.spec_changes.specs.Shape.{Shape}
 use Rattle.spec_changes.specs.Expiry.{Closing, Rising, elapsed}
+use Rattle.spec_changes.specs.Last.{Last, lastOf}
 use Rattle.answers.specs.declared.answer.Answer.{Answer}
 use Rattle.answers.specs.Answers.{answerNumber, is}
 use Rattle.spec_calls.specs.Form.{sound, formOf}
 use Rattle.spec_calls.specs.CallRules.{nameless, isRetry, shortTaken, longTaken}
 use Rattle.spec_calls.specs.Handling.{answerFrom2, Handled, handled}
-use Rattle.spec_promises.specs.Ledger.{Fed, dropped, ledger, answered, lapsed}
+use Rattle.spec_promises.specs.Ledger.{Fed, dropped, ledger, lastIn, answered, lapsed}
 
 -- what the caller hands in beside the table; a message is a byte string
 pub record Input : Type 0 where
@@ -110,18 +111,19 @@ pub record Promised (total : ℕ) (r : List Terms) (start : List Entry) (t : Tab
   -- no customer has more calls in the ledger than its limit
   pub limited : (sender : ℕ) → isListed r sender ≡ true → callsOf (ledger total start (fed t x ∷ h)) sender ≤ limitOf r sender
   -- a setup of no fault, judged by the ledger after its closings, whose call is not open and whose IDs its pair does not
-  -- use, is answered what its customer is due; bytes and buffer length alone tell whether it has a fault. Without names,
+  -- use, is answered what its customer is due; its bytes, the buffer's length and what was fed before tell whether it has a
+  -- fault: a node cannot call it late to get out of opening it (02, A8). Without names,
   -- its call is the one made for its two numbers, and neither ID counts as in use (02, A6)
-  pub due : (q : CallRequest) → formOf r (fed t x .message) (fed t x .room) ≡ sound (Open q)
+  pub due : (q : CallRequest) → formOf r (lastIn h) (fed t x .message) (fed t x .room) ≡ sound (Open q)
       → isRetry (ledgerFound total start h (fed t x)) (x .message) q ≡ false
       → longTaken (ledgerFound total start h (fed t x)) (x .message) q ≡ false
       → shortTaken (ledgerFound total start h (fed t x)) (x .message) q ≡ false
       → answerNumber (fed t x .answer) ≡ dueAnswer total r (ledgerFound total start h (fed t x)) (q .sender)
   -- a setup of no fault whose call is open in the ledger is a retry and is answered 21: nothing is opened a second time
-  pub retried : (q : CallRequest) → formOf r (fed t x .message) (fed t x .room) ≡ sound (Open q)
+  pub retried : (q : CallRequest) → formOf r (lastIn h) (fed t x .message) (fed t x .room) ≡ sound (Open q)
       → isRetry (ledgerFound total start h (fed t x)) (x .message) q ≡ true → answerNumber (fed t x .answer) ≡ 21
   -- every setup of no fault that is refused has its cause in the ledger
-  pub caused : (q : CallRequest) → formOf r (fed t x .message) (fed t x .room) ≡ sound (Open q)
+  pub caused : (q : CallRequest) → formOf r (lastIn h) (fed t x .message) (fed t x .room) ≡ sound (Open q)
       → Cause total r (ledgerFound total start h (fed t x)) (x .message) q (answerNumber (fed t x .answer))
 
 -- a table that keeps the rules, and whose open calls are a ledger's entries, in any order
@@ -130,8 +132,26 @@ pub record Agrees (t : Table) (l : List Entry) : Type 0 where
   pub rules : rulesHold t ≡ true
   pub calls : (p : Entry → Bool) → countIf p (entries t) ≡ countIf p l
 
--- calls and connections are as they were (demand 1; the connections of Call ID 0 stand with their customers)
+-- what a table keeps of each listed sender is what the list says that was fed (02, A8)
+abbrev pub Remembers : Table → (ℕ → Last) → Type 0
+Remembers t k = (sender : ℕ) → isListed (roster t) sender ≡ true → lastOf t sender ≡ k sender
+
+-- a customer but for its last MESSAGE_ID: its address, guarantee and limit, and its connections of Call ID 0
+abbrev pub withoutLast : Customer → Customer
+withoutLast c = record {
+  address = c .address;
+  guarantee = c .guarantee;
+  limit = c .limit;
+  kept = 0;
+  epoch = 0;
+  identifier = 0;
+  endpoints = c .endpoints;
+  places = c .places;
+}
+
+-- calls and connections are as they were (demand 1; the connections of Call ID 0 stand with their customers), and so are
+-- the customers but for what is kept of them (02, A8)
 pub record Unchanged (before after : Table) : Type 0 where
   pub occupied : after .occupied ≡ before .occupied
   pub calls : after .calls ≡ before .calls
-  pub customers : after .customers ≡ before .customers
+  pub customers : map withoutLast (after .customers) ≡ map withoutLast (before .customers)

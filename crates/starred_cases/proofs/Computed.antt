@@ -26,7 +26,9 @@ use Rattle.table.specs.Roster.{guaranteeIn, limitIn, spareIn, badForm, recordsA
 use Rattle.spec_changes.specs.Calls.{opened, freed, refreshedAt}
 use Rattle.spec_changes.specs.Expiry.{isIdle, isExpired, closingsOf, closingWords, freedAll, elapsed}
 use Rattle.spec_changes.specs.Connections.{addedUnder, removedUnder, added, removed}
-use Rattle.spec_calls.specs.Form.{listedOr11, formOf}
+use Rattle.spec_changes.specs.Last.{lastKept}
+use Rattle.spec_calls.specs.Late.{isBehind}
+use Rattle.spec_calls.specs.Form.{listedOr11, soundOr16, formOf}
 use Rattle.spec_calls.specs.CallRules.{shareUsedUp, openAnswer, closeAnswer}
 use Rattle.spec_calls.specs.Made.{hexDigit, hexDigits, madeName, isUnused, madeShort}
 use Rattle.spec_calls.specs.PathRules.{addAnswer, dropAnswer}
@@ -37,7 +39,8 @@ use Rattle.starred_cases.specs.Replies.{replied, replyCases, RepliesHold
 use Rattle.starred_cases.specs.Nameless.{limitOf3, namelessCases, namelessResults, NamelessHold}
 use Rattle.starred_cases.specs.PaddedNames.{rosterBytes, paddedCases, paddedResults, PaddedHold}
 use Rattle.starred_cases.specs.Lapses.{lapseRoster, lapseCases, lapseResults, LapsesHold}
-use Rattle.starred_cases.proofs.Unchecked.{unchecked, uncheckedAt, lapseBytes, lapses-same, allBytes, through-same, empty-sound, roster-sound, rowsBytes, outcomes-same, replyBytes, replies-same, paddedBytes, padded-same}
+use Rattle.starred_cases.specs.Late.{lateRoster, lateResultOf, lateCases, lateResults, LatesHold}
+use Rattle.starred_cases.proofs.Unchecked.{unchecked, uncheckedAt, lapseBytes, lapses-same, allBytes, through-same, results-same, empty-sound, roster-sound, rowsBytes, outcomes-same, replyBytes, replies-same, paddedBytes, padded-same}
 
 -- ---- all rows are byte strings
 
@@ -64,35 +67,35 @@ padded-bytes = refl
 -- ---- what they come to
 
 cases-computed : outcomes unchecked emptyTable cases ≡ map expected cases
-unfolding cases withSet withClear isUsed withUsed withFree firstNot atFront isIn zerosAt unpadded passedOver refusedClass hasForm attributeFormed formed misformed badLength itemAt seen objectsOf walkFrom walkOf badMessageLength checksumHolds typeOf headerOf notifyComplete pathComplete connectionIn requestAt isCallRequest isNameless badIdentity notifyOf pathOf readOf elementIf listIf below everyBelow firstBelow noCall noCustomer emptyTable S badShare sameBytes sameShort sameLong sameLsp guaranteeIn limitIn spareIn badForm recordsAnswer rosterAnswer customersFrom freshTable tableFor opened freed refreshedAt closingsOf freedAll elapsed addedUnder removedUnder added removed listedOr11 formOf shareUsedUp openAnswer closeAnswer addAnswer dropAnswer tableAfter replyAfter
+unfolding cases withSet withClear isUsed withUsed withFree firstNot atFront isIn zerosAt unpadded passedOver refusedClass hasForm attributeFormed formed misformed badLength itemAt seen objectsOf walkFrom walkOf badMessageLength checksumHolds typeOf headerOf notifyComplete pathComplete connectionIn requestAt isCallRequest isNameless badIdentity notifyOf pathOf readOf elementIf listIf below everyBelow firstBelow noCall noCustomer emptyTable S badShare sameBytes sameShort sameLong sameLsp guaranteeIn limitIn spareIn badForm recordsAnswer rosterAnswer customersFrom freshTable tableFor opened freed refreshedAt closingsOf freedAll elapsed addedUnder removedUnder added removed lastKept listedOr11 isBehind soundOr16 formOf shareUsedUp openAnswer closeAnswer addAnswer dropAnswer tableAfter replyAfter
 cases-computed = refl
 
 pub cases-hold : CasesHold
 cases-hold = outcomes-same cases emptyTable empty-sound cases-bytes ∙ cases-computed
 
 two-hundred-computed : outcomes unchecked emptyTable twoHundred ≡ map expected twoHundred
-unfolding twoHundred withSet withClear isUsed withUsed withFree firstNot atFront isIn zerosAt unpadded passedOver refusedClass hasForm attributeFormed formed misformed badLength itemAt seen objectsOf walkFrom walkOf badMessageLength checksumHolds typeOf headerOf notifyComplete pathComplete connectionIn requestAt isCallRequest isNameless badIdentity notifyOf pathOf readOf elementIf listIf below everyBelow firstBelow noCall noCustomer emptyTable S badShare sameBytes sameShort sameLong sameLsp guaranteeIn limitIn spareIn badForm recordsAnswer rosterAnswer customersFrom freshTable tableFor opened freed refreshedAt closingsOf freedAll elapsed addedUnder removedUnder added removed listedOr11 formOf shareUsedUp openAnswer closeAnswer addAnswer dropAnswer tableAfter replyAfter
+unfolding twoHundred withSet withClear isUsed withUsed withFree firstNot atFront isIn zerosAt unpadded passedOver refusedClass hasForm attributeFormed formed misformed badLength itemAt seen objectsOf walkFrom walkOf badMessageLength checksumHolds typeOf headerOf notifyComplete pathComplete connectionIn requestAt isCallRequest isNameless badIdentity notifyOf pathOf readOf elementIf listIf below everyBelow firstBelow noCall noCustomer emptyTable S badShare sameBytes sameShort sameLong sameLsp guaranteeIn limitIn spareIn badForm recordsAnswer rosterAnswer customersFrom freshTable tableFor opened freed refreshedAt closingsOf freedAll elapsed addedUnder removedUnder added removed lastKept listedOr11 isBehind soundOr16 formOf shareUsedUp openAnswer closeAnswer addAnswer dropAnswer tableAfter replyAfter
 two-hundred-computed = refl
 
 pub two-hundred-hold : TwoHundredHold
 two-hundred-hold = outcomes-same twoHundred emptyTable empty-sound two-hundred-bytes ∙ two-hundred-computed
 
 slots-computed : slotsAfter unchecked ≡ slotsDue
-unfolding slotMessages withSet withClear isUsed withUsed withFree firstNot atFront isIn zerosAt unpadded passedOver refusedClass hasForm attributeFormed formed misformed badLength itemAt seen objectsOf walkFrom walkOf badMessageLength checksumHolds typeOf headerOf notifyComplete pathComplete connectionIn requestAt isCallRequest isNameless badIdentity notifyOf pathOf readOf elementIf listIf below everyBelow firstBelow noCall noCustomer emptyTable S badShare sameBytes sameShort sameLong sameLsp guaranteeIn limitIn spareIn badForm recordsAnswer rosterAnswer customersFrom freshTable tableFor opened freed refreshedAt closingsOf freedAll elapsed addedUnder removedUnder added removed listedOr11 formOf shareUsedUp openAnswer closeAnswer addAnswer dropAnswer tableAfter replyAfter
+unfolding slotMessages withSet withClear isUsed withUsed withFree firstNot atFront isIn zerosAt unpadded passedOver refusedClass hasForm attributeFormed formed misformed badLength itemAt seen objectsOf walkFrom walkOf badMessageLength checksumHolds typeOf headerOf notifyComplete pathComplete connectionIn requestAt isCallRequest isNameless badIdentity notifyOf pathOf readOf elementIf listIf below everyBelow firstBelow noCall noCustomer emptyTable S badShare sameBytes sameShort sameLong sameLsp guaranteeIn limitIn spareIn badForm recordsAnswer rosterAnswer customersFrom freshTable tableFor opened freed refreshedAt closingsOf freedAll elapsed addedUnder removedUnder added removed lastKept listedOr11 isBehind soundOr16 formOf shareUsedUp openAnswer closeAnswer addAnswer dropAnswer tableAfter replyAfter
 slots-computed = refl
 
 pub lowest-taken : LowestTaken
 lowest-taken = ap slotsIn (through-same buffer slotMessages _ (roster-sound slotRoster refl) slot-bytes .0) ∙ slots-computed
 
 replies-computed : map (replied unchecked) replyCases ≡ map (λ c. c .expected) replyCases
-unfolding replyCases withSet withClear isUsed withUsed withFree firstNot atFront isIn zerosAt unpadded passedOver refusedClass hasForm attributeFormed formed misformed badLength itemAt seen objectsOf walkFrom walkOf badMessageLength checksumHolds typeOf headerOf notifyComplete pathComplete connectionIn requestAt isCallRequest isNameless badIdentity notifyOf pathOf readOf elementIf listIf below everyBelow firstBelow noCall noCustomer emptyTable S badShare sameBytes sameShort sameLong sameLsp guaranteeIn limitIn spareIn badForm recordsAnswer rosterAnswer customersFrom freshTable tableFor opened freed refreshedAt closingsOf freedAll elapsed addedUnder removedUnder added removed listedOr11 formOf shareUsedUp openAnswer closeAnswer addAnswer dropAnswer tableAfter replyAfter pathErrBytes pathErrBeforeChecksum notifyBytes notifyBeforeChecksum withChecksum checksumOf wordsSum allRound firstWords
+unfolding replyCases withSet withClear isUsed withUsed withFree firstNot atFront isIn zerosAt unpadded passedOver refusedClass hasForm attributeFormed formed misformed badLength itemAt seen objectsOf walkFrom walkOf badMessageLength checksumHolds typeOf headerOf notifyComplete pathComplete connectionIn requestAt isCallRequest isNameless badIdentity notifyOf pathOf readOf elementIf listIf below everyBelow firstBelow noCall noCustomer emptyTable S badShare sameBytes sameShort sameLong sameLsp guaranteeIn limitIn spareIn badForm recordsAnswer rosterAnswer customersFrom freshTable tableFor opened freed refreshedAt closingsOf freedAll elapsed addedUnder removedUnder added removed lastKept listedOr11 isBehind soundOr16 formOf shareUsedUp openAnswer closeAnswer addAnswer dropAnswer tableAfter replyAfter pathErrBytes pathErrBeforeChecksum notifyBytes notifyBeforeChecksum withChecksum checksumOf wordsSum allRound firstWords
 replies-computed = refl
 
 pub replies-hold : RepliesHold
 replies-hold = replies-same replyCases reply-bytes ∙ replies-computed
 
 padded-computed : paddedResults unchecked ≡ map (λ c. c .result) paddedCases
-unfolding paddedCases withSet withClear isUsed withUsed withFree firstNot atFront isIn zerosAt unpadded passedOver refusedClass hasForm attributeFormed formed misformed badLength itemAt seen objectsOf walkFrom walkOf badMessageLength checksumHolds typeOf headerOf notifyComplete pathComplete connectionIn requestAt isCallRequest isNameless badIdentity notifyOf pathOf readOf elementIf listIf below everyBelow firstBelow noCall noCustomer emptyTable S badShare sameBytes sameShort sameLong sameLsp guaranteeIn limitIn spareIn badForm recordsAnswer rosterAnswer customersFrom freshTable tableFor opened freed refreshedAt closingsOf freedAll elapsed addedUnder removedUnder added removed listedOr11 formOf shareUsedUp openAnswer closeAnswer addAnswer dropAnswer tableAfter replyAfter pathErrBytes pathErrBeforeChecksum notifyBytes notifyBeforeChecksum withChecksum checksumOf wordsSum allRound firstWords
+unfolding paddedCases withSet withClear isUsed withUsed withFree firstNot atFront isIn zerosAt unpadded passedOver refusedClass hasForm attributeFormed formed misformed badLength itemAt seen objectsOf walkFrom walkOf badMessageLength checksumHolds typeOf headerOf notifyComplete pathComplete connectionIn requestAt isCallRequest isNameless badIdentity notifyOf pathOf readOf elementIf listIf below everyBelow firstBelow noCall noCustomer emptyTable S badShare sameBytes sameShort sameLong sameLsp guaranteeIn limitIn spareIn badForm recordsAnswer rosterAnswer customersFrom freshTable tableFor opened freed refreshedAt closingsOf freedAll elapsed addedUnder removedUnder added removed lastKept listedOr11 isBehind soundOr16 formOf shareUsedUp openAnswer closeAnswer addAnswer dropAnswer tableAfter replyAfter pathErrBytes pathErrBeforeChecksum notifyBytes notifyBeforeChecksum withChecksum checksumOf wordsSum allRound firstWords
 padded-computed = refl
 
 pub padded-hold : PaddedHold
@@ -103,7 +106,7 @@ unfolding namelessCases
 nameless-bytes = refl
 
 nameless-computed : namelessResults unchecked ≡ map (λ c. c .result) namelessCases
-unfolding namelessCases hexDigit hexDigits madeName isUnused madeShort notifyMadeBytes withSet withClear isUsed withUsed withFree firstNot atFront isIn zerosAt unpadded passedOver refusedClass hasForm attributeFormed formed misformed badLength itemAt seen objectsOf walkFrom walkOf badMessageLength checksumHolds typeOf headerOf notifyComplete pathComplete connectionIn requestAt isCallRequest isNameless badIdentity notifyOf pathOf readOf elementIf listIf below everyBelow firstBelow noCall noCustomer emptyTable S badShare sameBytes sameShort sameLong sameLsp guaranteeIn limitIn spareIn badForm recordsAnswer rosterAnswer customersFrom freshTable tableFor opened freed refreshedAt closingsOf freedAll elapsed addedUnder removedUnder added removed listedOr11 formOf shareUsedUp openAnswer closeAnswer addAnswer dropAnswer tableAfter replyAfter pathErrBytes pathErrBeforeChecksum notifyBytes notifyBeforeChecksum withChecksum checksumOf wordsSum allRound firstWords
+unfolding namelessCases hexDigit hexDigits madeName isUnused madeShort notifyMadeBytes withSet withClear isUsed withUsed withFree firstNot atFront isIn zerosAt unpadded passedOver refusedClass hasForm attributeFormed formed misformed badLength itemAt seen objectsOf walkFrom walkOf badMessageLength checksumHolds typeOf headerOf notifyComplete pathComplete connectionIn requestAt isCallRequest isNameless badIdentity notifyOf pathOf readOf elementIf listIf below everyBelow firstBelow noCall noCustomer emptyTable S badShare sameBytes sameShort sameLong sameLsp guaranteeIn limitIn spareIn badForm recordsAnswer rosterAnswer customersFrom freshTable tableFor opened freed refreshedAt closingsOf freedAll elapsed addedUnder removedUnder added removed lastKept listedOr11 isBehind soundOr16 formOf shareUsedUp openAnswer closeAnswer addAnswer dropAnswer tableAfter replyAfter pathErrBytes pathErrBeforeChecksum notifyBytes notifyBeforeChecksum withChecksum checksumOf wordsSum allRound firstWords
 nameless-computed = refl
 
 pub nameless-hold : NamelessHold
@@ -116,8 +119,21 @@ unfolding lapseCases
 lapse-bytes = refl
 
 lapses-computed : lapseResults uncheckedAt ≡ map (λ c. c .result) lapseCases
-unfolding lapseCases isIdle isExpired closingWords withSet withClear isUsed withUsed withFree firstNot atFront isIn zerosAt unpadded passedOver refusedClass hasForm attributeFormed formed misformed badLength itemAt seen objectsOf walkFrom walkOf badMessageLength checksumHolds typeOf headerOf notifyComplete pathComplete connectionIn requestAt isCallRequest isNameless badIdentity notifyOf pathOf readOf elementIf listIf below everyBelow firstBelow noCall noCustomer emptyTable S badShare sameBytes sameShort sameLong sameLsp guaranteeIn limitIn spareIn badForm recordsAnswer rosterAnswer customersFrom freshTable tableFor opened freed refreshedAt closingsOf freedAll elapsed addedUnder removedUnder added removed listedOr11 formOf shareUsedUp openAnswer closeAnswer addAnswer dropAnswer tableAfter replyAfter
+unfolding lapseCases isIdle isExpired closingWords withSet withClear isUsed withUsed withFree firstNot atFront isIn zerosAt unpadded passedOver refusedClass hasForm attributeFormed formed misformed badLength itemAt seen objectsOf walkFrom walkOf badMessageLength checksumHolds typeOf headerOf notifyComplete pathComplete connectionIn requestAt isCallRequest isNameless badIdentity notifyOf pathOf readOf elementIf listIf below everyBelow firstBelow noCall noCustomer emptyTable S badShare sameBytes sameShort sameLong sameLsp guaranteeIn limitIn spareIn badForm recordsAnswer rosterAnswer customersFrom freshTable tableFor opened freed refreshedAt closingsOf freedAll elapsed addedUnder removedUnder added removed lastKept listedOr11 isBehind soundOr16 formOf shareUsedUp openAnswer closeAnswer addAnswer dropAnswer tableAfter replyAfter
 lapses-computed = refl
 
 pub lapses-hold : LapsesHold
 lapses-hold = lapses-same lapseCases (tableFor (rosterAnswer lapseRoster) lapseRoster) (roster-sound lapseRoster refl) lapse-bytes ∙ lapses-computed
+
+-- ---- late messages
+
+late-bytes : allBytes (map (λ c. c .message) lateCases) ≡ true
+unfolding lateCases
+late-bytes = refl
+
+lates-computed : lateResults unchecked ≡ map (λ c. c .result) lateCases
+unfolding lateCases withSet withClear isUsed withUsed withFree firstNot atFront isIn zerosAt unpadded passedOver refusedClass hasForm attributeFormed formed misformed badLength itemAt seen objectsOf walkFrom walkOf badMessageLength checksumHolds typeOf headerOf notifyComplete pathComplete connectionIn requestAt isCallRequest isNameless badIdentity notifyOf pathOf readOf elementIf listIf below everyBelow firstBelow noCall noCustomer emptyTable S badShare sameBytes sameShort sameLong sameLsp guaranteeIn limitIn spareIn badForm recordsAnswer rosterAnswer customersFrom freshTable tableFor opened freed refreshedAt closingsOf freedAll elapsed addedUnder removedUnder added removed lastKept listedOr11 isBehind soundOr16 formOf shareUsedUp openAnswer closeAnswer addAnswer dropAnswer tableAfter replyAfter
+lates-computed = refl
+
+pub lates-hold : LatesHold
+lates-hold = results-same lateResultOf buffer (map (λ c. c .message) lateCases) (tableFor (rosterAnswer lateRoster) lateRoster) (roster-sound lateRoster refl) late-bytes ∙ lates-computed

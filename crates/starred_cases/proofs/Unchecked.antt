@@ -27,13 +27,13 @@ use Rattle.spec_calls.specs.Handling.{answeredIn, Handled, handledAfter, handle
 use Rattle.spec_promises.specs.Promises.{Agrees}
 use Rattle.spec_promises.proofs.Step.{step-agrees}
 use Rattle.spec_promises.proofs.Demand3.{accepted, fresh-agrees}
-use Rattle.starred_cases.specs.Run.{StepTo, atRest, tableThrough}
+use Rattle.starred_cases.specs.Run.{StepTo, atRest, tableThrough, resultThen, resultsThrough}
 use Rattle.starred_cases.specs.TwoCustomers.{StarredCase, begin, ask, buffer, outcomeOf, asked, outcomes}
 use Rattle.starred_cases.specs.Lapses.{LapseCase, thenLapse, lapsesFrom}
 use Rattle.starred_cases.specs.Replies.{ReplyCase, repliedOf, before, replied}
 use Rattle.starred_cases.specs.PaddedNames.{PaddedCase, thenRest, resultsFrom}
 
--- tests 2 to 13 and the rules, without test 1
+-- tests 2 to 13 and 16 and the rules, without test 1
 abbrev pub uncheckedAt : ℕ → ℕ → StepTo Handled
 uncheckedAt time period t s buffer =
     cond (ltb (length buffer) leastBuffer) (handledAfter [] (answeredIn t s buffer))
@@ -86,6 +86,15 @@ through-same b (s ∷ l) t g h =
     let k = both (isBytes s) (allBytes l) h in
     let i = through-same b l (atRest t s b .table) (step-sound t g s b (k .0)) (k .1) in
     (i .0 ∙ ap (λ x. tableThrough unchecked b (x .table) l) (step-same t g s b), i .1)
+
+pub results-same : {A : Type 0} (f : Handled → A) (b : List ℕ) (l : List (List ℕ)) (t : Table) → Sound t → allBytes l ≡ true
+    → resultsThrough f atRest b t l ≡ resultsThrough f unchecked b t l
+results-same f b [] t g h = refl
+results-same f b (s ∷ l) t g h =
+    let k = both (isBytes s) (allBytes l) h in
+    let x = atRest t s b in
+    ap (λ rest. resultThen f x (λ u. rest)) (results-same f b l (x .table) (step-sound t g s b (k .0)) (k .1))
+    ∙ ap (λ y. resultThen f y (λ u. resultsThrough f unchecked b u l)) (step-same t g s b)
 
 -- ---- the table of a roster's bytes
 

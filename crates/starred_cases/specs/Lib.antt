@@ -5,3 +5,4 @@ pub mod Replies
 pub mod PaddedNames
 pub mod Nameless
 pub mod Lapses
+pub mod Late

@@ -32,20 +32,21 @@ namelessCases =
     -- neither ID: both are made; the retry finds the call, and so does a setup with the made IDs
     row (asks 7 0 0 []) 20 108 false
     ∷ row (asks 7 0 0 []) 21 108 true
-    ∷ row (asks 9 1 20 (made 1)) 21 108 true
+    ∷ row (asks 7 1 20 (made 1)) 21 108 true
     -- they close it, and the retry opens anew
-    ∷ row (closes 9 1 20 (made 1)) 22 108 false
+    ∷ row (closes 7 1 20 (made 1)) 22 108 false
     ∷ row (asks 7 0 0 []) 20 108 false
-    ∷ row (closes 9 1 20 (made 1)) 22 108 false
+    ∷ row (closes 8 1 20 (made 1)) 22 108 false
     -- a call of short ID 5 under the name made of 1 is in the way: IDs 2 and 3
     ∷ row (asks 9 5 20 (made 1)) 20 108 false
     ∷ row (asks 10 0 0 []) 20 108 false
-    ∷ row (asks 9 2 20 (made 2)) 21 108 true
+    ∷ row (asks 10 2 20 (made 2)) 21 108 true
     ∷ row (asks 11 0 0 []) 20 108 false
-    ∷ row (asks 9 3 20 (made 3)) 21 108 true
-    -- at the limit: refused, with the empty name as received; a retry is none
+    ∷ row (asks 11 3 20 (made 3)) 21 108 true
+    -- at the limit: a retry is not refused; a new one is, with the empty name as received, and an older retry is late then
+    ∷ row (asks 11 0 0 []) 21 108 true
     ∷ row (asks 12 0 0 []) 34 88 true
-    ∷ row (asks 10 0 0 []) 21 108 true
+    ∷ row (asks 10 0 0 []) 16 0 true
     -- a close without names; a name alone; zeros are no name
     ∷ row (closes 10 0 0 []) 13 0 true
     ∷ row (asks 13 0 1 (0x61 ∷ 0 ∷ 0 ∷ 0 ∷ [])) 13 0 true

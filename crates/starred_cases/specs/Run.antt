@@ -17,3 +17,11 @@ atRest t s buffer = handled t s buffer 0 0
 abbrev pub tableThrough : StepTo Handled → List ℕ → Table → List (List ℕ) → Table
 tableThrough step buffer t [] = t
 tableThrough step buffer t (s ∷ l) = tableThrough step buffer (step t s buffer .table) l
+
+-- what some messages come to, one after another, each with the same buffer
+abbrev pub resultThen : {A : Type 0} → (Handled → A) → Handled → (Table → List A) → List A
+resultThen f h rest = f h ∷ rest (h .table)
+
+abbrev pub resultsThrough : {A : Type 0} → (Handled → A) → StepTo Handled → List ℕ → Table → List (List ℕ) → List A
+resultsThrough f step buffer t [] = []
+resultsThrough f step buffer t (s ∷ l) = resultThen f (step t s buffer) (λ u. resultsThrough f step buffer u l)

@@ -99,12 +99,20 @@ session call tunnel = object 1 7 (bytes32 0x0a000002 ++ bytes16 call ++ bytes16 
 abbrev pub template : ℕ → ℕ → List ℕ
 template sender lsp = object 11 7 (bytes32 sender ++ bytes16 0 ++ bytes16 lsp)
 
--- a Notify with this MESSAGE_ID's identifier, these ADMIN_STATUS bits and this body of the SESSION_ATTRIBUTE
-abbrev pub notifyNumbered : ℕ → ℕ → ℕ → ℕ → List ℕ → List ℕ
-notifyNumbered identifier status sender call attribute =
+-- a MESSAGE_ID by its epoch and identifier
+abbrev pub messageId : ℕ → ℕ → List ℕ
+messageId epoch identifier = object 23 1 (bytes32 epoch ++ bytes32 identifier)
+
+-- a Notify with this MESSAGE_ID, these ADMIN_STATUS bits and this body of the SESSION_ATTRIBUTE
+abbrev pub notifySent : ℕ → ℕ → ℕ → ℕ → ℕ → List ℕ → List ℕ
+notifySent epoch identifier status sender call attribute =
     message 21
-    (session call 0 ++ object 6 1 (replicate 8 0) ++ template sender 0 ++ object 23 1 (bytes32 1 ++ bytes32 identifier)
+    (session call 0 ++ object 6 1 (replicate 8 0) ++ template sender 0 ++ messageId epoch identifier
     ++ object 196 1 (bytes32 status) ++ object 207 7 attribute)
+
+-- in epoch 1
+abbrev pub notifyNumbered : ℕ → ℕ → ℕ → ℕ → List ℕ → List ℕ
+notifyNumbered = notifySent 1
 
 abbrev pub notifyWith : ℕ → ℕ → ℕ → List ℕ → List ℕ
 notifyWith status sender call attribute = notifyNumbered 7 status sender call attribute

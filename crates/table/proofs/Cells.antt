@@ -32,8 +32,8 @@ customer-at w k h = getD-each (λ k. customerAtWord w (customerStart k)) 8 k _ h
 pub place-at : (w : List ℕ) (b j : ℕ) → j < 4 → getD (placesAtWord w b) j (placeAtWord [] 0) ≡ placeAtWord w (b + 4 * j)
 place-at w b j h = getD-each (λ j. placeAtWord w (b + 4 * j)) 4 j _ h
 
-pub endpoint-at : (w : List ℕ) (b j : ℕ) → j < 4 → getD (customerAtWord w b .endpoints) j 0 ≡ getD w (b + 3 + j) 0
-endpoint-at w b j h = getD-each (λ j. getD w (b + 3 + j) 0) 4 j 0 h
+pub endpoint-at : (w : List ℕ) (b j : ℕ) → j < 4 → getD (customerAtWord w b .endpoints) j 0 ≡ getD w (b + 6 + j) 0
+endpoint-at w b j h = getD-each (λ j. getD w (b + 6 + j) 0) 4 j 0 h
 
 -- words that are the same, from one place on and from another
 module _ (w v : List ℕ) (b e n : ℕ) (h : (k : ℕ) → k < n → getD w (b + k) 0 ≡ getD v (e + k) 0) where
@@ -77,25 +77,34 @@ module _ (w v : List ℕ) (b e : ℕ) where
         p,
       )
 
-  pub customer-same : ((k : ℕ) → k < 23 → getD w (b + k) 0 ≡ getD v (e + k) 0) → customerAtWord w b ≡ customerAtWord v e
+  pub customer-same : ((k : ℕ) → k < 26 → getD w (b + k) 0 ≡ getD v (e + k) 0) → customerAtWord w b ≡ customerAtWord v e
   customer-same h =
-      let f = cell w v b e 23 h in
+      let f = cell w v b e 26 h in
       let n : customerAtWord w b .endpoints ≡ customerAtWord v e .endpoints =
-      below-ext _ _ 4 (λ j l. ap (λ (x : ℕ). x ∷ []) (f (b + 3 + j) (e + 3 + j) (3 + j) (omega arith) (omega arith) (omega arith))) in
-      let p : placesAtWord w (b + 7) ≡ placesAtWord v (e + 7) =
-      places-same w v (b + 7) (e + 7) (λ k l. f (b + 7 + k) (e + 7 + k) (7 + k) (omega arith) (omega arith) (omega arith)) in
-      rw (f b e 0 (omega arith) (omega arith) (omega arith), h 1 (omega arith), h 2 (omega arith), n, p)
+      below-ext _ _ 4 (λ j l. ap (λ (x : ℕ). x ∷ []) (f (b + 6 + j) (e + 6 + j) (6 + j) (omega arith) (omega arith) (omega arith))) in
+      let p : placesAtWord w (b + 10) ≡ placesAtWord v (e + 10) =
+      places-same w v (b + 10) (e + 10) (λ k l. f (b + 10 + k) (e + 10 + k) (10 + k) (omega arith) (omega arith) (omega arith)) in
+      rw (
+        f b e 0 (omega arith) (omega arith) (omega arith),
+        h 1 (omega arith),
+        h 2 (omega arith),
+        h 3 (omega arith),
+        h 4 (omega arith),
+        h 5 (omega arith),
+        n,
+        p,
+      )
 
 module _ (w v : List ℕ) where
   pub occupied-same : ((j : ℕ) → 6 ≤ j → j < 14 → getD v j 0 ≡ getD w j 0) → occupiedOf v ≡ occupiedOf w
   occupied-same h =
       below-ext _ _ 4 (λ k l. ap₂ (λ (x y : ℕ). (x + y * 4294967296) ∷ []) (h (6 + 2 * k) (omega arith) (omega arith)) (h (7 + 2 * k) (omega arith) (omega arith)))
 
-  pub customers-same : ((j : ℕ) → 14 ≤ j → j < 198 → getD v j 0 ≡ getD w j 0) → customersOf v ≡ customersOf w
+  pub customers-same : ((j : ℕ) → 14 ≤ j → j < 222 → getD v j 0 ≡ getD w j 0) → customersOf v ≡ customersOf w
   customers-same h =
       below-ext _ _ 8 (λ k l. ap (λ x. x ∷ []) (customer-same v w (customerStart k) (customerStart k) (λ j m. h (customerStart k + j) (omega arith) (omega arith))))
 
-  pub calls-same : ((j : ℕ) → 198 ≤ j → getD v j 0 ≡ getD w j 0) → slotsOf v ≡ slotsOf w
+  pub calls-same : ((j : ℕ) → 222 ≤ j → getD v j 0 ≡ getD w j 0) → slotsOf v ≡ slotsOf w
   calls-same h =
       below-ext _ _ slots (λ i l. ap (λ x. x ∷ []) (call-same v w (callStart i) (callStart i) (λ j m. h (callStart i + j) (omega arith))))
 
@@ -106,7 +115,7 @@ module _ (w v : List ℕ) where
       sym (set-each (λ i. callAtWord w (callStart i)) (λ i. callAtWord v (callStart i)) slots i l
       (λ j n. call-same w v (callStart j) (callStart j) (λ k m. sym (h (callStart j + k) (λ p q. n (omega arith))))))
 
-  pub customers-set : (i : ℕ) → i < 8 → ((j : ℕ) → (customerStart i ≤ j → j < customerStart i + 23 → ⊥) → getD v j 0 ≡ getD w j 0)
+  pub customers-set : (i : ℕ) → i < 8 → ((j : ℕ) → (customerStart i ≤ j → j < customerStart i + 26 → ⊥) → getD v j 0 ≡ getD w j 0)
       → customersOf v ≡ set (customersOf w) i (customerAtWord v (customerStart i))
   customers-set i l h =
       sym (set-each (λ i. customerAtWord w (customerStart i)) (λ i. customerAtWord v (customerStart i)) 8 i l

@@ -104,7 +104,7 @@ unfolding below isUsed
 head-slots = refl
 
 pub starts : customerStart 0 ∷ customerStart 1 ∷ customerStart 7 ∷ callStart 0 ∷ callStart 1 ∷ callStart 199 ∷ wordCount ∷ []
-    ≡ 14 ∷ 37 ∷ 175 ∷ 198 ∷ 230 ∷ 6566 ∷ 6598 ∷ []
+    ≡ 14 ∷ 40 ∷ 196 ∷ 222 ∷ 254 ∷ 6590 ∷ 6622 ∷ []
 starts = refl
 
 -- each word is the number of its place; but for word 8, which has four bytes of its own, the low one 41
@@ -133,9 +133,12 @@ pub customer-words : customerAtWord counted 0 ≡ record {
   address = 0;
   guarantee = 1;
   limit = 2;
-  endpoints = 3 ∷ 4 ∷ 5 ∷ 6 ∷ [];
-  places = record { taken = 7; tunnel = 0x44434241; extended = 9; lsp = 10 } ∷ record { taken = 11; tunnel = 12; extended = 13; lsp = 14 }
-      ∷ record { taken = 15; tunnel = 16; extended = 17; lsp = 18 } ∷ record { taken = 19; tunnel = 20; extended = 21; lsp = 22 } ∷ [];
+  kept = 3;
+  epoch = 4;
+  identifier = 5;
+  endpoints = 6 ∷ 7 ∷ 0x44434241 ∷ 9 ∷ [];
+  places = record { taken = 10; tunnel = 11; extended = 12; lsp = 13 } ∷ record { taken = 14; tunnel = 15; extended = 16; lsp = 17 }
+      ∷ record { taken = 18; tunnel = 19; extended = 20; lsp = 21 } ∷ record { taken = 22; tunnel = 23; extended = 24; lsp = 25 } ∷ [];
 }
 unfolding below
 customer-words = refl

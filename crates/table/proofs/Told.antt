@@ -69,18 +69,22 @@ module _ (w v : List ℕ) where
         (λ k l m h. moved (b + 8 + (k - 8)) (b + k) (omega arith) (name-told w v (b + 8) (b + 8) (ap (λ c. c .name) e) (k - 8) (omega arith)))
         (λ k n m h. moved (b + 16 + (k - 16)) (b + k) (omega arith) (places-told (b + 16) (ap (λ c. c .places) e) (k - 16) (omega arith))) k m) k g) k h
 
-    pub customer-told : customerAtWord w b ≡ customerAtWord v b → (k : ℕ) → k < 23 → Same (b + k)
+    pub customer-told : customerAtWord w b ≡ customerAtWord v b → (k : ℕ) → k < 26 → Same (b + k)
     customer-told e k h =
-        split {P = λ k. k < 23 → Same (b + k)} 3
-        (λ k l h. four (λ k. k < 3 → Same (b + k))
-        (λ z. moved b (b + 0) (omega arith) (ap (λ c. c .address) e))
-        (λ z. ap (λ c. c .guarantee) e)
-        (λ z. ap (λ c. c .limit) e)
-        (λ z. absurd (omega arith)) k (omega arith) l)
-        (λ k n. split {P = λ k. 3 ≤ k → k < 23 → Same (b + k)} 7
-        (λ k l n h. moved (b + 3 + (k - 3)) (b + k) (omega arith)
-        (cell (λ j. getD w (b + 3 + j) 0) (λ j. getD v (b + 3 + j) 0) 4 (ap (λ c. c .endpoints) e) (k - 3) (omega arith)))
-        (λ k l n h. moved (b + 7 + (k - 7)) (b + k) (omega arith) (places-told (b + 7) (ap (λ c. c .places) e) (k - 7) (omega arith))) k n) k h
+        split {P = λ k. k < 26 → Same (b + k)} 4
+        (λ k l h. four (λ k. Same (b + k))
+        (moved b (b + 0) (omega arith) (ap (λ c. c .address) e))
+        (ap (λ c. c .guarantee) e)
+        (ap (λ c. c .limit) e)
+        (ap (λ c. c .kept) e) k l)
+        (λ k g. split {P = λ k. 4 ≤ k → k < 26 → Same (b + k)} 6
+        (λ k l g h. split {P = λ k. 4 ≤ k → k < 6 → Same (b + k)} 5
+        (λ k m g l. moved (b + 4) (b + k) (omega arith) (ap (λ c. c .epoch) e))
+        (λ k m g l. moved (b + 5) (b + k) (omega arith) (ap (λ c. c .identifier) e)) k g l)
+        (λ k n g. split {P = λ k. 6 ≤ k → k < 26 → Same (b + k)} 10
+        (λ k l n h. moved (b + 6 + (k - 6)) (b + k) (omega arith)
+        (cell (λ j. getD w (b + 6 + j) 0) (λ j. getD v (b + 6 + j) 0) 4 (ap (λ c. c .endpoints) e) (k - 6) (omega arith)))
+        (λ k l n h. moved (b + 10 + (k - 10)) (b + k) (omega arith) (places-told (b + 10) (ap (λ c. c .places) e) (k - 10) (omega arith))) k n) k g) k h
 
   module _ (lw : (i : ℕ) → getD w i 0 < 4294967296) (lv : (i : ℕ) → getD v i 0 < 4294967296) (e : tableOf w ≡ tableOf v) where
     -- two words that are one of 64 bits
@@ -96,21 +100,21 @@ module _ (w v : List ℕ) where
         (λ r a q b. moved (7 + 2 * k) (6 + j) (omega arith) high)
         (j % 2) refl (omega arith)
 
-    customers-told : (k : ℕ) → 14 ≤ k → k < 198 → Same k
+    customers-told : (k : ℕ) → 14 ≤ k → k < 222 → Same k
     customers-told k g h =
-        let j = (k - 14) / 23 in
+        let j = (k - 14) / 26 in
         let p : customerAtWord w (customerStart j) ≡ customerAtWord v (customerStart j) =
         ap (λ l. getD l 0 (customerAtWord w 0))
         (cells-told (λ j. customerAtWord w (customerStart j) ∷ []) (λ j. customerAtWord v (customerStart j) ∷ []) 1 (λ i. refl) (λ i. refl) 8 (ap (λ t. t .customers) e) j (omega arith)) in
-        moved (customerStart j + (k - 14) % 23) k (omega arith) (customer-told (customerStart j) p ((k - 14) % 23) (omega arith))
+        moved (customerStart j + (k - 14) % 26) k (omega arith) (customer-told (customerStart j) p ((k - 14) % 26) (omega arith))
 
-    calls-told : (k : ℕ) → 198 ≤ k → k < wordCount → Same k
+    calls-told : (k : ℕ) → 222 ≤ k → k < wordCount → Same k
     calls-told k g h =
-        let j = (k - 198) / 32 in
+        let j = (k - 222) / 32 in
         let p : callAtWord w (callStart j) ≡ callAtWord v (callStart j) =
         ap (λ l. getD l 0 (callAtWord w 0))
         (cells-told (λ j. callAtWord w (callStart j) ∷ []) (λ j. callAtWord v (callStart j) ∷ []) 1 (λ i. refl) (λ i. refl) slots (ap (λ t. t .calls) e) j (omega arith)) in
-        moved (callStart j + (k - 198) % 32) k (omega arith) (call-told (callStart j) p ((k - 198) % 32) (omega arith))
+        moved (callStart j + (k - 222) % 32) k (omega arith) (call-told (callStart j) p ((k - 222) % 32) (omega arith))
 
     word-told : (k : ℕ) → k < wordCount → Same k
     word-told k h =
@@ -120,7 +124,7 @@ module _ (w v : List ℕ) where
         (λ k l g h. split {P = λ k. 4 ≤ k → k < 6 → Same k} 5 (λ k m g l. moved 4 k (omega arith) (ap (λ t. t .listed) e)) (λ k m g l. moved 5 k (omega arith) (ap (λ t. t .form) e)) k g l)
         (λ k f g. split {P = λ k. 6 ≤ k → k < wordCount → Same k} 14
         (λ k l f h. moved (6 + (k - 6)) k (omega arith) (occupied-told (k - 6) (omega arith)))
-        (λ k m f. split {P = λ k. 14 ≤ k → k < wordCount → Same k} 198 (λ k l m h. customers-told k m l) (λ k n m h. calls-told k n h) k m) k f) k g) k h
+        (λ k m f. split {P = λ k. 14 ≤ k → k < wordCount → Same k} 222 (λ k l m h. customers-told k m l) (λ k n m h. calls-told k n h) k m) k f) k g) k h
 
     told : length w ≡ wordCount → length v ≡ wordCount → w ≡ v
     told n m = ext-getD 0 w v (n ∙ sym m) (λ i l. word-told i (omega arith))

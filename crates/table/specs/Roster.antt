@@ -85,7 +85,7 @@ rosterAnswer s =
     (cond (not (eqb (length s) (8 + 6 * customersIn s))) Length
     (recordsAnswer s 0 (customersIn s))))
 
--- ---- the table: that roster as read, no calls or connections, next own identifier 1, all else zeros, the time too
+-- ---- the table: that roster as read, no calls or connections, next own identifier 1, all else zeros: the time, and no MESSAGE_ID kept
 
 abbrev pub customerIn : List ℕ → ℕ → Customer
 customerIn s k =
@@ -93,6 +93,9 @@ customerIn s k =
       address = termsIn s k .address;
       guarantee = termsIn s k .guarantee;
       limit = termsIn s k .limit;
+      kept = 0;
+      epoch = 0;
+      identifier = 0;
       endpoints = replicate 4 0;
       places = replicate 4 noPlace;
     }

@@ -136,15 +136,27 @@ unusedClear c = eqb (c .made) 0 && eqb (c .refreshed) 0 && eqb (c .epoch) 0 && e
 unfoldable pub callClear : Call → Bool
 callClear c = unusedClear c && eqb (c .endpoint) 0 && eqb (c .sender) 0 && eqb (c .id) 0 && eqb (c .size) 0 && zerosAt (c .name) 0 32 && fourClear (callFour c)
 
+-- 02, A8: a customer's last MESSAGE_ID has an epoch of 24 bits; where none is kept there are zeros, and a mark other than
+-- 0 and 1 is neither.
+abbrev pub keptTidy : Customer → Bool
+keptTidy c = cond (eqb (c .kept) 1) (ltb (c .epoch) 0x1000000) (eqb (c .kept) 0 && eqb (c .epoch) 0 && eqb (c .identifier) 0)
+
 -- an end point stands beside a taken place
 unfoldable pub customerFreeClear : Customer → Bool
 customerFreeClear c =
-    fourValid (customerFour c) && everyBelow (λ j. isTaken (placeAt (customerFour c) j) || eqb (customerFour c .endpoint j) 0) 4
+    keptTidy c && fourValid (customerFour c) && everyBelow (λ j. isTaken (placeAt (customerFour c) j) || eqb (customerFour c .endpoint j) 0) 4
 
 -- an unused roster record
 unfoldable pub customerClear : Customer → Bool
 customerClear c =
-    eqb (c .address) 0 && eqb (c .guarantee) 0 && eqb (c .limit) 0 && fourClear (customerFour c) && everyBelow (λ j. eqb (customerFour c .endpoint j) 0) 4
+    eqb (c .address) 0
+    && eqb (c .guarantee) 0
+    && eqb (c .limit) 0
+    && eqb (c .kept) 0
+    && eqb (c .epoch) 0
+    && eqb (c .identifier) 0
+    && fourClear (customerFour c)
+    && everyBelow (λ j. eqb (customerFour c .endpoint j) 0) 4
 
 abbrev pub slotFreeClear : Table → ℕ → Bool
 slotFreeClear t i = cond (isUsed (t .occupied) i) (callFreeClear (callAt t i)) (callClear (callAt t i))

@@ -1,8 +1,9 @@
 -- The table with one thing stored: a call, a customer, a connection, the occupancy's words, the next own identifier, the
--- node's time; and a call with another refresh.
+-- node's time; a call with another refresh; a customer with other terms, with another last MESSAGE_ID.
 use Prim.Native.Nat.{ℕ}
 use mathlib.Core.List.{List}
 use lib.ListN.{set}
+use Rattle.objects.specs.declared.fields.MessageId.{MessageId}
 use Rattle.table.specs.Table.{Place, Call, Customer, Table}
 
 -- another call in a slot, and the occupancy's words beside it
@@ -107,6 +108,9 @@ withStandalonePlace c j endpoint p = record {
   address = c .address;
   guarantee = c .guarantee;
   limit = c .limit;
+  kept = c .kept;
+  epoch = c .epoch;
+  identifier = c .identifier;
   endpoints = set (c .endpoints) j endpoint;
   places = set (c .places) j p;
 }
@@ -130,6 +134,22 @@ withTerms c address guarantee limit = record {
   address = address;
   guarantee = guarantee;
   limit = limit;
+  kept = c .kept;
+  epoch = c .epoch;
+  identifier = c .identifier;
+  endpoints = c .endpoints;
+  places = c .places;
+}
+
+-- another last MESSAGE_ID (02, A8)
+abbrev pub withLast : Customer → MessageId → Customer
+withLast c id = record {
+  address = c .address;
+  guarantee = c .guarantee;
+  limit = c .limit;
+  kept = 1;
+  epoch = id .epoch;
+  identifier = id .identifier;
   endpoints = c .endpoints;
   places = c .places;
 }

@@ -25,11 +25,15 @@ pub record Call : Type 0 where
   pub name : List ℕ
   pub places : List Place
 
--- a customer, with its connections of Call ID 0: an end point for each of the four places
+-- a customer, with the last MESSAGE_ID that the node accepted in a Notify of it (02, A8): `kept` is 1 where there is one;
+-- and with its connections of Call ID 0: an end point for each of the four places
 pub record Customer : Type 0 where
   pub address : ℕ
   pub guarantee : ℕ
   pub limit : ℕ
+  pub kept : ℕ
+  pub epoch : ℕ
+  pub identifier : ℕ
   pub endpoints : List ℕ
   pub places : List Place
 

@@ -2,8 +2,8 @@
 -- contract on the table settles every word. The code's constants are those of table/src/layout.rt.
 --
 --   0 address   1 epoch   2 next   3 time   4 listed   5 form   6 to 13 occupied, 32 slots each
---   14 + 23 k   customer k: address, guarantee, limit, 4 end points, 4 places
---   198 + 32 i  call i: end point, sender, last refresh, epoch, identifier, short ID, made mark, name length, 8 words of name, 4 places
+--   14 + 26 k   customer k: address, guarantee, limit, kept mark, epoch, identifier, 4 end points, 4 places
+--   222 + 32 i  call i: end point, sender, last refresh, epoch, identifier, short ID, made mark, name length, 8 words of name, 4 places
 --   a place: taken, tunnel, extended, LSP
 use Prim.Native.Nat.{ℕ, _+_, _*_, _/_, _%_}
 use mathlib.Core.List.{List, [], _∷_}
@@ -15,14 +15,14 @@ use Rattle.table.specs.Total.{slots}
 -- ---- where things stand
 
 abbrev pub customerStart : ℕ → ℕ
-customerStart k = 14 + 23 * k
+customerStart k = 14 + 26 * k
 
 abbrev pub callStart : ℕ → ℕ
-callStart i = 198 + 32 * i
+callStart i = 222 + 32 * i
 
 -- how many words there are
 abbrev pub wordCount : ℕ
-wordCount = 6598
+wordCount = 6622
 
 -- ---- what stands there
 
@@ -59,8 +59,11 @@ customerAtWord w b = record {
   address = getD w b 0;
   guarantee = getD w (b + 1) 0;
   limit = getD w (b + 2) 0;
-  endpoints = below (λ j. getD w (b + 3 + j) 0 ∷ []) 4;
-  places = placesAtWord w (b + 7);
+  kept = getD w (b + 3) 0;
+  epoch = getD w (b + 4) 0;
+  identifier = getD w (b + 5) 0;
+  endpoints = below (λ j. getD w (b + 6 + j) 0 ∷ []) 4;
+  places = placesAtWord w (b + 10);
 }
 
 -- ---- the whole

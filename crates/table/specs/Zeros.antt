@@ -23,7 +23,16 @@ noCall = record {
 }
 
 unfoldable pub noCustomer : Customer
-noCustomer = record { address = 0; guarantee = 0; limit = 0; endpoints = replicate 4 0; places = replicate 4 noPlace }
+noCustomer = record {
+  address = 0;
+  guarantee = 0;
+  limit = 0;
+  kept = 0;
+  epoch = 0;
+  identifier = 0;
+  endpoints = replicate 4 0;
+  places = replicate 4 noPlace;
+}
 
 -- no customers, all zeros, the time too (02, A7: at first 0), next own identifier 1
 unfoldable pub emptyTable : Table
@@ -55,4 +64,13 @@ pastCall = record {
 }
 
 abbrev pub pastCustomer : Customer
-pastCustomer = record { address = 0; guarantee = 0; limit = 0; endpoints = []; places = [] }
+pastCustomer = record {
+  address = 0;
+  guarantee = 0;
+  limit = 0;
+  kept = 0;
+  epoch = 0;
+  identifier = 0;
+  endpoints = [];
+  places = [];
+}

@@ -25,21 +25,27 @@ pub const FORM: usize = 5;
 
 pub const OCCUPIED: usize = 6;
 
-// A customer: its terms, then an end point for each of its places, then the places.
+// A customer: its terms, its last MESSAGE_ID, then an end point for each of its places, then the places.
 pub const FIRST_CUSTOMER: usize = 14;
 
-pub const CUSTOMER_WORDS: usize = 23;
+pub const CUSTOMER_WORDS: usize = 26;
 
 pub const GUARANTEE: usize = 1;
 
 pub const LIMIT: usize = 2;
 
-pub const ENDPOINTS: usize = 3;
+pub const KEPT: usize = 3;
 
-pub const CUSTOMER_FOUR: usize = 7;
+pub const LAST_EPOCH: usize = 4;
+
+pub const LAST_IDENTIFIER: usize = 5;
+
+pub const ENDPOINTS: usize = 6;
+
+pub const CUSTOMER_FOUR: usize = 10;
 
 // A call: its numbers, the 8 words of its name, its places.
-pub const FIRST_CALL: usize = 198;
+pub const FIRST_CALL: usize = 222;
 
 pub const CALL_WORDS: usize = 32;
 
@@ -73,6 +79,6 @@ pub const EXTENDED: usize = 2;
 pub const LSP: usize = 3;
 
 // All of it.
-pub const WORDS: usize = 6598;
+pub const WORDS: usize = 6622;
 
 pub type Words = [u32; WORDS];

@@ -40,9 +40,9 @@ module _ (w : List ℕ) (k : ℕ) (l : k < 8) where
   customerFourPlace = record {
     call = record { 0 = 0 };
     sender = getD w (customerStart k + 0) 0;
-    endpoint = customerStart k + 3;
+    endpoint = customerStart k + 6;
     each = true;
-    places = customerStart k + 7;
+    places = customerStart k + 10;
   }
 
   pub customer-four : Alike (fourAtWord w customerFourPlace) (customerFour (customerAt (tableOf w) k)) × FourInside customerFourPlace

@@ -1,5 +1,5 @@
 -- Words stored: the table with another head, with another call in a slot, with another customer, with another connection in
--- a four, with another refresh of a call.
+-- a four, with another refresh of a call, with other terms of a customer, with another last MESSAGE_ID.
 -- Assumes nothing.
 use Prim.Native.Nat.{ℕ, _+_, _*_, _≤_, _<_}
 use native.Mathlib.Omega.{arith}
@@ -11,10 +11,11 @@ use lib.ListN.{length, getD, set, length-set}
 use lib.Seq.{getD-set-same, getD-set-other}
 use borrow.Author.Tests.{eqb-true, eqb-false}
 use Rattle.lists.proofs.Below.{below-ext, set-each}
-use Rattle.table.specs.Table.{Table}
+use Rattle.objects.specs.declared.fields.MessageId.{MessageId}
+use Rattle.table.specs.Table.{Place, Table}
 use Rattle.table.specs.Total.{slots}
 use Rattle.table.specs.Lists.{callAt, customerAt}
-use Rattle.table.specs.Stores.{withSlot, withCustomer, withPlace, withStandalonePlace, withTerms, withRefresh, withOccupied, withRoster}
+use Rattle.table.specs.Stores.{withSlot, withCustomer, withPlace, withStandalonePlace, withTerms, withLast, withRefresh, withOccupied, withRoster}
 use Rattle.table.specs.Words.{placeAtWord, placesAtWord, callAtWord, customerAtWord, customersOf, slotsOf, occupiedOf, customerStart, callStart, tableOf, wordCount}
 use Rattle.table.proofs.Cells.{call-at, customer-at, name-same, place-same, places-same, occupied-same, customers-same, calls-same, calls-set, customers-set}
 
@@ -59,10 +60,10 @@ module _ (w v : List ℕ) where
       )
 
   -- words that differ in one customer only
-  pub customer-changed : (k : ℕ) → k < 8 → Elsewhere w v (customerStart k) 23
+  pub customer-changed : (k : ℕ) → k < 8 → Elsewhere w v (customerStart k) 26
       → tableOf v ≡ withCustomer (tableOf w) k (customerAtWord v (customerStart k))
   customer-changed k l other =
-      let h = head (customerStart k) 23 (omega arith) other in
+      let h = head (customerStart k) 26 (omega arith) other in
       rw (
         h 0 (omega arith),
         h 1 (omega arith),
@@ -147,53 +148,108 @@ module _ (w : List ℕ) (i j x y z u : ℕ) (long : length w ≡ wordCount) (l :
 
 -- a connection of Call ID 0 stored with a customer, its end point first
 module _ (w : List ℕ) (k j e x y z u : ℕ) (long : length w ≡ wordCount) (l : k < 8) (m : j < 4) where
-  pub customer-place-stored : tableOf (set4 (set w (customerStart k + 3 + j) e) (customerStart k + 7 + 4 * j) x y z u)
+  pub customer-place-stored : tableOf (set4 (set w (customerStart k + 6 + j) e) (customerStart k + 10 + 4 * j) x y z u)
       ≡ withCustomer (tableOf w) k (withStandalonePlace (customerAt (tableOf w) k) j e (record { taken = x; tunnel = y; extended = z; lsp = u }))
   customer-place-stored =
       let b = customerStart k in
-      let at = b + 7 + 4 * j in
-      let a = set w (b + 3 + j) e in
-      let n = length-set w (b + 3 + j) e in
+      let at = b + 10 + 4 * j in
+      let a = set w (b + 6 + j) e in
+      let n = length-set w (b + 6 + j) e in
       let v = set4 a at x y z u in
-      let first : (i : ℕ) → (i ≡ b + 3 + j → ⊥) → getD a i 0 ≡ getD w i 0 = λ i o. getD-set-other w (b + 3 + j) i e 0 o in
+      let first : (i : ℕ) → (i ≡ b + 6 + j → ⊥) → getD a i 0 ≡ getD w i 0 = λ i o. getD-set-other w (b + 6 + j) i e 0 o in
       let then = set4-other a at x y z u (omega arith) in
-      let other : (i : ℕ) → (i ≡ b + 3 + j → ⊥) → (at ≤ i → i < at + 4 → ⊥) → getD v i 0 ≡ getD w i 0 = λ i o q. then i q ∙ first i o in
-      let f : (i : ℕ) → i < 3 → getD v (b + i) 0 ≡ getD w (b + i) 0 = λ i o. other (b + i) (λ p. omega arith) (λ p q. omega arith) in
+      let other : (i : ℕ) → (i ≡ b + 6 + j → ⊥) → (at ≤ i → i < at + 4 → ⊥) → getD v i 0 ≡ getD w i 0 = λ i o q. then i q ∙ first i o in
+      let f : (i : ℕ) → i < 6 → getD v (b + i) 0 ≡ getD w (b + i) 0 = λ i o. other (b + i) (λ p. omega arith) (λ p q. omega arith) in
       let ends : customerAtWord v b .endpoints ≡ set (customerAtWord w b .endpoints) j e =
-      below-ext _ _ 4 (λ i o. ap (λ (q : ℕ). q ∷ []) (then (b + 3 + i) (λ p q. omega arith)))
-      ∙ sym (set-each (λ i. getD w (b + 3 + i) 0) (λ i. getD a (b + 3 + i) 0) 4 j m (λ i o. sym (first (b + 3 + i) (λ p. o (omega arith)))))
-      ∙ ap (λ (q : ℕ). set (customerAtWord w b .endpoints) j q) (getD-set-same w (b + 3 + j) e 0 (omega arith)) in
-      let places : placesAtWord v (b + 7) ≡ set (placesAtWord w (b + 7)) j (record { taken = x; tunnel = y; extended = z; lsp = u }) =
-      places-changed w v (b + 7) j m (λ i o q. other i (λ p. omega arith) q) ∙ ap (λ p. set (placesAtWord w (b + 7)) j p) (set4-here a at x y z u (omega arith)) in
+      below-ext _ _ 4 (λ i o. ap (λ (q : ℕ). q ∷ []) (then (b + 6 + i) (λ p q. omega arith)))
+      ∙ sym (set-each (λ i. getD w (b + 6 + i) 0) (λ i. getD a (b + 6 + i) 0) 4 j m (λ i o. sym (first (b + 6 + i) (λ p. o (omega arith)))))
+      ∙ ap (λ (q : ℕ). set (customerAtWord w b .endpoints) j q) (getD-set-same w (b + 6 + j) e 0 (omega arith)) in
+      let places : placesAtWord v (b + 10) ≡ set (placesAtWord w (b + 10)) j (record { taken = x; tunnel = y; extended = z; lsp = u }) =
+      places-changed w v (b + 10) j m (λ i o q. other i (λ p. omega arith) q) ∙ ap (λ p. set (placesAtWord w (b + 10)) j p) (set4-here a at x y z u (omega arith)) in
       let here : customerAtWord v b ≡ withStandalonePlace (customerAtWord w b) j e (record { taken = x; tunnel = y; extended = z; lsp = u }) =
-      rw (other b (λ p. omega arith) (λ p q. omega arith), f 1 (omega arith), f 2 (omega arith), ends, places) in
+      rw (other b (λ p. omega arith) (λ p q. omega arith), f 1 (omega arith), f 2 (omega arith), f 3 (omega arith), f 4 (omega arith), f 5 (omega arith), ends, places) in
       rw (customer-at w k l)
       (customer-changed w v k l (λ i o. other i (λ p. o (omega arith) (omega arith)) (λ p q. o (omega arith) (omega arith))) ∙ ap (λ c. withCustomer (tableOf w) k c) here)
 
--- a customer's terms stored
-module _ (w : List ℕ) (k x y z : ℕ) (long : length w ≡ wordCount) (l : k < 8) where
-  pub terms-stored : tableOf (set (set (set w (customerStart k) x) (customerStart k + 1) y) (customerStart k + 2) z)
-      ≡ withCustomer (tableOf w) k (withTerms (customerAt (tableOf w) k) x y z)
-  terms-stored =
-      let b = customerStart k in
+-- three words stored
+abbrev pub set3 : List ℕ → ℕ → ℕ → ℕ → ℕ → List ℕ
+set3 w b x y z = set (set (set w b x) (b + 1) y) (b + 2) z
+
+module _ (w : List ℕ) (b x y z : ℕ) (fits : b + 3 ≤ length w) where
+  set3-other : Elsewhere w (set3 w b x y z) b 3
+  set3-other j n =
       let a1 = set w b x in
       let a2 = set a1 (b + 1) y in
-      let v = set a2 (b + 2) z in
-      let n1 = length-set w b x in
-      let n2 = length-set a1 (b + 1) y in
-      let other : Elsewhere w v b 3 = λ j n.
       getD-set-other a2 (b + 2) j z 0 (λ e. n (omega arith) (omega arith))
       ∙ getD-set-other a1 (b + 1) j y 0 (λ e. n (omega arith) (omega arith))
-      ∙ getD-set-other w b j x 0 (λ e. n (omega arith) (omega arith)) in
-      let p : getD v b 0 ≡ x =
-      getD-set-other a2 (b + 2) b z 0 (λ e. omega arith) ∙ getD-set-other a1 (b + 1) b y 0 (λ e. omega arith) ∙ getD-set-same w b x 0 (omega arith) in
-      let q : getD v (b + 1) 0 ≡ y = getD-set-other a2 (b + 2) (b + 1) z 0 (λ e. omega arith) ∙ getD-set-same a1 (b + 1) y 0 (omega arith) in
-      let r : getD v (b + 2) 0 ≡ z = getD-set-same a2 (b + 2) z 0 (omega arith) in
+      ∙ getD-set-other w b j x 0 (λ e. n (omega arith) (omega arith))
+
+  set3-here : (getD (set3 w b x y z) b 0 ≡ x) × (getD (set3 w b x y z) (b + 1) 0 ≡ y) × (getD (set3 w b x y z) (b + 2) 0 ≡ z)
+  set3-here =
+      let a1 = set w b x in
+      let a2 = set a1 (b + 1) y in
+      let n1 = length-set w b x in
+      let n2 = length-set a1 (b + 1) y in (
+        getD-set-other a2 (b + 2) b z 0 (λ e. omega arith) ∙ getD-set-other a1 (b + 1) b y 0 (λ e. omega arith) ∙ getD-set-same w b x 0 (omega arith),
+        getD-set-other a2 (b + 2) (b + 1) z 0 (λ e. omega arith) ∙ getD-set-same a1 (b + 1) y 0 (omega arith),
+        getD-set-same a2 (b + 2) z 0 (omega arith),
+      )
+
+-- words that differ in front of a customer's end points only
+module _ (w v : List ℕ) (k : ℕ) (l : k < 8) (other : Elsewhere w v (customerStart k) 6) where
+  customer-head-changed : tableOf v ≡ withCustomer (tableOf w) k (record {
+    address = getD v (customerStart k) 0;
+    guarantee = getD v (customerStart k + 1) 0;
+    limit = getD v (customerStart k + 2) 0;
+    kept = getD v (customerStart k + 3) 0;
+    epoch = getD v (customerStart k + 4) 0;
+    identifier = getD v (customerStart k + 5) 0;
+    endpoints = customerAtWord w (customerStart k) .endpoints;
+    places = customerAtWord w (customerStart k) .places;
+  })
+  customer-head-changed =
+      let b = customerStart k in
       let ends : customerAtWord v b .endpoints ≡ customerAtWord w b .endpoints =
-      below-ext _ _ 4 (λ i o. ap (λ (n : ℕ). n ∷ []) (other (b + 3 + i) (λ p q. omega arith))) in
-      let here : customerAtWord v b ≡ withTerms (customerAtWord w b) x y z =
-      rw (p, q, r, ends, places-same v w (b + 7) (b + 7) (λ i o. other (b + 7 + i) (λ p q. omega arith))) in
-      rw (customer-at w k l) (customer-changed w v k l (λ i o. other i (λ p q. o (omega arith) (omega arith))) ∙ ap (λ c. withCustomer (tableOf w) k c) here)
+      below-ext _ _ 4 (λ i o. ap (λ (n : ℕ). n ∷ []) (other (b + 6 + i) (λ p q. omega arith))) in
+      let places : placesAtWord v (b + 10) ≡ placesAtWord w (b + 10) = places-same v w (b + 10) (b + 10) (λ i o. other (b + 10 + i) (λ p q. omega arith)) in
+      customer-changed w v k l (λ i o. other i (λ p q. o (omega arith) (omega arith))) ∙ ap₂ (λ (e : List ℕ) (p : List Place). withCustomer (tableOf w) k (record {
+        address = getD v b 0;
+        guarantee = getD v (b + 1) 0;
+        limit = getD v (b + 2) 0;
+        kept = getD v (b + 3) 0;
+        epoch = getD v (b + 4) 0;
+        identifier = getD v (b + 5) 0;
+        endpoints = e;
+        places = p;
+      })) ends places
+
+-- a customer's terms stored
+module _ (w : List ℕ) (k x y z : ℕ) (long : length w ≡ wordCount) (l : k < 8) where
+  pub terms-stored : tableOf (set3 w (customerStart k) x y z) ≡ withCustomer (tableOf w) k (withTerms (customerAt (tableOf w) k) x y z)
+  terms-stored =
+      let b = customerStart k in
+      let v = set3 w b x y z in
+      let other = set3-other w b x y z (omega arith) in
+      let here = set3-here w b x y z (omega arith) in
+      let f : (i : ℕ) → 3 ≤ i → getD v (b + i) 0 ≡ getD w (b + i) 0 = λ i o. other (b + i) (λ p q. omega arith) in
+      rw (customer-at w k l, customer-head-changed w v k l (λ i o. other i (λ p q. o (omega arith) (omega arith))), here .0, here .1, here .2, f 3 (omega arith), f 4 (omega arith), f 5 (omega arith))
+
+-- a customer's last MESSAGE_ID stored
+module _ (w : List ℕ) (k : ℕ) (id : MessageId) (long : length w ≡ wordCount) (l : k < 8) where
+  pub last-stored : tableOf (set (set (set w (customerStart k + 3) 1) (customerStart k + 4) (id .epoch)) (customerStart k + 5) (id .identifier))
+      ≡ withCustomer (tableOf w) k (withLast (customerAt (tableOf w) k) id)
+  last-stored =
+      let b = customerStart k in
+      let v = set3 w (b + 3) 1 (id .epoch) (id .identifier) in
+      let other = set3-other w (b + 3) 1 (id .epoch) (id .identifier) (omega arith) in
+      let here = set3-here w (b + 3) 1 (id .epoch) (id .identifier) (omega arith) in
+      let f : (i : ℕ) → i < 3 → getD v (b + i) 0 ≡ getD w (b + i) 0 = λ i o. other (b + i) (λ p q. omega arith) in
+      let epoch : getD v (b + 4) 0 ≡ id .epoch = ap (λ (j : ℕ). getD v j 0) (omega arith) ∙ here .1 in
+      let identifier : getD v (b + 5) 0 ≡ id .identifier = ap (λ (j : ℕ). getD v j 0) (omega arith) ∙ here .2 in
+      let second : b + 4 ≡ b + 3 + 1 = omega arith in
+      let third : b + 5 ≡ b + 3 + 2 = omega arith in
+      ap tableOf (ap₂ (λ (x y : ℕ). set (set (set w (b + 3) 1) x (id .epoch)) y (id .identifier)) second third)
+      ∙ rw (customer-at w k l, customer-head-changed w v k l (λ i o. other i (λ p q. o (omega arith) (omega arith))), other b (λ p q. omega arith), f 1 (omega arith), f 2 (omega arith), here .0, epoch, identifier)
 
 -- the last refresh of a call stored
 module _ (w : List ℕ) (i n : ℕ) (long : length w ≡ wordCount) (l : i < slots) where

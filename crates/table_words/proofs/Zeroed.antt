@@ -29,7 +29,7 @@ pub call-none : callAtWord (replicate 32 0) 0 ≡ noCall
 unfolding below noCall
 call-none = refl
 
-customer-none : customerAtWord (replicate 23 0) 0 ≡ noCustomer
+customer-none : customerAtWord (replicate 26 0) 0 ≡ noCustomer
 unfolding below noCustomer
 customer-none = refl
 
@@ -46,8 +46,8 @@ module _ (w : List ℕ) (b : ℕ) where
   call-zeros : ((k : ℕ) → k < 32 → getD w (b + k) 0 ≡ 0) → callAtWord w b ≡ noCall
   call-zeros h = call-same w (replicate 32 0) b 0 (λ k l. h k l ∙ sym (zero-get 32 (0 + k))) ∙ call-none
 
-  customer-zeros : ((k : ℕ) → k < 23 → getD w (b + k) 0 ≡ 0) → customerAtWord w b ≡ noCustomer
-  customer-zeros h = customer-same w (replicate 23 0) b 0 (λ k l. h k l ∙ sym (zero-get 23 (0 + k))) ∙ customer-none
+  customer-zeros : ((k : ℕ) → k < 26 → getD w (b + k) 0 ≡ 0) → customerAtWord w b ≡ noCustomer
+  customer-zeros h = customer-same w (replicate 26 0) b 0 (λ k l. h k l ∙ sym (zero-get 26 (0 + k))) ∙ customer-none
 
 -- ---- the rule's words, the other way
 
@@ -109,14 +109,26 @@ module _ (w : List ℕ) (b : ℕ) where
   clear-customer h =
       let a = both _ _ h in
       let p = both _ _ (a .0) in
-      let limit = both _ _ (p .0) in
+      let identifier = both _ _ (p .0) in
+      let epoch = both _ _ (identifier .0) in
+      let kept = both _ _ (epoch .0) in
+      let limit = both _ _ (kept .0) in
       let address = both _ _ (limit .0) in
       let ends : customerAtWord w b .endpoints ≡ replicate 4 0 =
       below-ext _ _ 4
       (λ j l. ap (λ (x : ℕ). x ∷ []) (sym (endpoint-at w b j l) ∙ eqb-true _ _ (every-at (λ j. eqb (getD (customerAtWord w b .endpoints) j 0) 0) 4 (a .1) j l)))
       ∙ endpoints-none in
-      let places : placesAtWord w (b + 7) ≡ replicate 4 noPlace = four-none w (b + 7) (p .1) in
-      rw (z b (address .0), z (b + 1) (address .1), z (b + 2) (limit .1), ends, places)
+      let places : placesAtWord w (b + 10) ≡ replicate 4 noPlace = four-none w (b + 10) (p .1) in
+      rw (
+        z b (address .0),
+        z (b + 1) (address .1),
+        z (b + 2) (limit .1),
+        z (b + 3) (kept .1),
+        z (b + 4) (epoch .1),
+        z (b + 5) (identifier .1),
+        ends,
+        places,
+      )
 
 module _ (w : List ℕ) (b : ℕ) where
   pub clear-call-words : everyBelow (λ k. eqb (getD w (b + k) 0) 0) 32 ≡ callClear (callAtWord w b)
@@ -125,11 +137,11 @@ module _ (w : List ℕ) (b : ℕ) where
       (λ h. ap callClear (call-zeros w b (λ k l. eqb-true _ _ (every-at (λ k. eqb (getD w (b + k) 0) 0) 32 h k l))) ∙ call-clear)
       (λ h. every-within _ 32 (λ k l. eq-eqb _ _ (call-told w [] b (clear-call w b h ∙ sym (call-zeros [] b (λ k l. refl))) k l)))
 
-  pub clear-customer-words : everyBelow (λ k. eqb (getD w (b + k) 0) 0) 23 ≡ customerClear (customerAtWord w b)
+  pub clear-customer-words : everyBelow (λ k. eqb (getD w (b + k) 0) 0) 26 ≡ customerClear (customerAtWord w b)
   clear-customer-words =
       alike _ _
-      (λ h. ap customerClear (customer-zeros w b (λ k l. eqb-true _ _ (every-at (λ k. eqb (getD w (b + k) 0) 0) 23 h k l))) ∙ customer-clear)
-      (λ h. every-within _ 23 (λ k l. eq-eqb _ _ (customer-told w [] b (clear-customer w b h ∙ sym (customer-zeros [] b (λ k l. refl))) k l)))
+      (λ h. ap customerClear (customer-zeros w b (λ k l. eqb-true _ _ (every-at (λ k. eqb (getD w (b + k) 0) 0) 26 h k l))) ∙ customer-clear)
+      (λ h. every-within _ 26 (λ k l. eq-eqb _ _ (customer-told w [] b (clear-customer w b h ∙ sym (customer-zeros [] b (λ k l. refl))) k l)))
 
 -- the words of the slots from n on stand in one row
 pub clear-calls-words : (w : List ℕ) (n : ℕ)

@@ -6,6 +6,7 @@ use Rattle.table.specs.Table.{Call, Customer}
 use Rattle.table.specs.Zeros.{noPlace}
 use Rattle.table_words.specs.declared.calls.CallHead.{CallHead}
 use Rattle.table_words.specs.declared.customers.CustomerHead.{CustomerHead}
+use Rattle.table_words.specs.declared.customers.LastWords.{LastWords}
 
 abbrev pub headOf : Call → CallHead
 headOf c = record {
@@ -36,3 +37,6 @@ callOf h name = record {
 
 abbrev pub customerHeadOf : Customer → CustomerHead
 customerHeadOf c = record { address = c .address; guarantee = c .guarantee; limit = c .limit }
+
+abbrev pub lastWordsOf : Customer → LastWords
+lastWordsOf c = record { kept = c .kept; epoch = c .epoch; identifier = c .identifier }

@@ -1,7 +1,7 @@
 //! A13: the packed bits of a checkpoint. All records are whole bytes.
 
 use crate::bytes::{long, word};
-use crate::keys::{Connection, LongId, Name, Pair, RequestId, ShortId};
+use crate::keys::{Connection, LongId, MessageId, Name, Pair, ShortId};
 use crate::table::{Call, NAME};
 
 /// The form that this program writes and reads.
@@ -86,9 +86,9 @@ impl CallRecord {
     }
 
     /// The request that made the call, if one did (A6).
-    pub fn made_by(&self) -> Option<RequestId> {
+    pub fn made_by(&self) -> Option<MessageId> {
         let &Call { epoch, identifier, .. } = &self.call;
-        (self.call.made == 1).then_some(RequestId { epoch, identifier })
+        (self.call.made == 1).then_some(MessageId { epoch, identifier })
     }
 
     pub fn put(&self, bytes: &mut Vec<u8>) {

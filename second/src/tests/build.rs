@@ -1,7 +1,7 @@
 //! Messages, rosters and a node under test.
 
 use crate::table::{Call, Table};
-use crate::{handle, read_roster, Answered, Clock, Closing, Node};
+use crate::{handle, read_message, read_roster, Answered, Clock, Closing, Message, Node};
 
 /// The customers of "Two customers, one table", and an address that is not listed.
 pub const X: u32 = 0x0a00_0001;
@@ -82,6 +82,13 @@ pub fn message(kind: u8, objects: &[Vec<u8>]) -> Vec<u8> {
     message
 }
 
+/// An open or a close with this MESSAGE_ID.
+pub fn with_numbers(sender: u32, id: u16, name: &[u8], status: u32, (epoch, identifier): (u32, u32)) -> Vec<u8> {
+    let mut objects = six(sender, id, name, status);
+    objects[3] = numbered(epoch, identifier);
+    message(NOTIFY, &objects)
+}
+
 /// The six objects of a Notify. Tests change single ones.
 pub fn six(sender: u32, id: u16, name: &[u8], status: u32) -> Vec<Vec<u8>> {
     vec![
@@ -155,6 +162,15 @@ pub fn handle_at_0(table: &Table, message: &[u8], reply: &mut [u8]) -> (u8, usiz
     (answered.answer, answered.length, after)
 }
 
+/// What a copy of the table is read as, places closed up: own identifiers from 1 (A13), no MESSAGE_ID kept (A8).
+pub fn read_back(table: &Table) -> Table {
+    let mut read = Table { next: 1, ..*table };
+    for record in &mut read.customers {
+        (record.kept, record.epoch, record.identifier) = (0, 0, 0);
+    }
+    read
+}
+
 /// A node under test: the table from message to message, and beside it a `Node` that stays.
 pub struct TestNode {
     pub table: Table,
@@ -209,7 +225,8 @@ impl TestNode {
             length,
             closings,
         } = answered;
-        check_change(answer, &elapsed(&self.table, clock, &closings), &after);
+        let before = elapsed(&self.table, clock, &closings);
+        check_change(answer, &accepted(before, message, answer), &after);
         let replied = matches!(answer, 20..=22 | 30..=35 | 37);
         assert_eq!(length > 0, replied);
         assert!(buffer[length..].iter().all(|&byte| byte == OLD));
@@ -257,8 +274,20 @@ fn elapsed(before: &Table, clock: Clock, closings: &[Closing]) -> Table {
     table
 }
 
+/// The table with the MESSAGE_ID of a Notify that was answered 20 to 34 in its sender's record (A8).
+fn accepted(mut table: Table, message: &[u8], answer: u8) -> Table {
+    if let (20..=34, Ok(Message::Open(request) | Message::Close(request))) = (answer, read_message(message)) {
+        let mut customers = table.customers.iter_mut();
+        let record = customers.find(|record| record.address == request.pair.sender);
+        let record = record.expect("an accepted Notify's sender is listed");
+        let numbers = request.numbers();
+        (record.kept, record.epoch, record.identifier) = (1, numbers.epoch, numbers.identifier);
+    }
+    table
+}
+
 /// "Answers that send none leave the table equal, but for 23 and 25"; the own identifier moves with a Notify. Equal is
-/// read from the table behind the closings, the refresh that a 21 sets left out (A7).
+/// read from the table behind the closings, the refresh that a 21 sets left out (A7), as is the MESSAGE_ID kept (A8).
 fn check_change(answer: u8, before: &Table, after: &Table) {
     let notify = matches!(answer, 20..=22 | 30..=34);
     let next = before.next.wrapping_add(notify.into());

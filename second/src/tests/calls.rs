@@ -1,6 +1,7 @@
 //! 01, "Two customers, one table", and the rest of "Every answer" and "Share".
 
 use super::build::*;
+use crate::table::Table;
 
 /// The occupied bits of a full table of form 1.
 const ALL_64: [u32; 8] = [u32::MAX, u32::MAX, 0, 0, 0, 0, 0, 0];
@@ -168,6 +169,11 @@ fn the_slot_holds_the_call() {
     let mut expected = fresh;
     expected.next = 2;
     expected.occupied[0] = 1;
+    (
+        expected.customers[0].kept,
+        expected.customers[0].epoch,
+        expected.customers[0].identifier,
+    ) = (1, 9, 42);
     expected.calls[0].endpoint = END;
     expected.calls[0].sender = X;
     expected.calls[0].id = 5;
@@ -175,7 +181,10 @@ fn the_slot_holds_the_call() {
     expected.calls[0].name[..2].copy_from_slice(b"ab");
     assert_eq!(tested.table, expected);
     assert_eq!(tested.ask(&close(X, 5, b"ab")), 22);
-    expected = fresh;
-    expected.next = 3;
+    expected = Table {
+        next: 3,
+        customers: expected.customers,
+        ..fresh
+    };
     assert_eq!(tested.table, expected);
 }

@@ -70,9 +70,8 @@ fn refreshes_are_written_and_read() {
     let read = salvage(ROOMY, &buffer[..length]);
     // The time is the latest refresh, not the time of writing.
     let due = Table {
-        next: 1,
         time: 20,
-        ..sound()
+        ..read_back(&sound())
     };
     assert_eq!((read.dropped, read.table), ((0, 0), due));
 }

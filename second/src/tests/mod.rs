@@ -1,4 +1,4 @@
-//! Tests from document 01's own examples and sentences and from those of requests A1, A6, A7, A11 and A13. Expected
+//! Tests from document 01's own examples and sentences and from those of requests A1, A6, A7, A8, A11 and A13. Expected
 //! values come from there.
 
 mod build;
@@ -9,6 +9,8 @@ mod connections;
 mod expiry;
 mod expiry_rules;
 mod form;
+mod late;
+mod late_rules;
 mod nameless;
 mod nameless_rules;
 mod objects;

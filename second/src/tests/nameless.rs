@@ -2,7 +2,7 @@
 
 use super::build::*;
 use crate::read_message;
-use crate::table::Table;
+use crate::table::{Customer, Table};
 
 /// The name made of a short ID, at END: sender 8, end point 8, short ID 4 digits.
 const MADE_OF_1: &[u8] = b"0a0000010a0000020001";
@@ -25,6 +25,16 @@ fn made(tested: &mut TestNode, message: &[u8], answer: u8) -> (u16, Vec<u8>) {
     )
 }
 
+/// The record with the MESSAGE_ID 9, 42 kept (A8).
+fn kept(record: Customer) -> Customer {
+    Customer {
+        kept: 1,
+        epoch: 9,
+        identifier: 42,
+        ..record
+    }
+}
+
 #[test]
 fn a_nameless_request_and_its_retry() {
     let mut tested = TestNode::two();
@@ -39,6 +49,7 @@ fn a_nameless_request_and_its_retry() {
     assert_eq!(tested.reply.len(), 108);
     let mut expected = fresh;
     (expected.next, expected.occupied[0]) = (2, 1);
+    expected.customers[0] = kept(expected.customers[0]);
     let call = &mut expected.calls[0];
     (call.endpoint, call.sender, call.id, call.size) = (END, X, 1, 20);
     call.name[..20].copy_from_slice(MADE_OF_1);
@@ -50,7 +61,9 @@ fn a_nameless_request_and_its_retry() {
     assert_eq!(tested.ask(&open(X, 1, MADE_OF_1)), 21);
     assert_eq!(tested.table, Table { next: 4, ..expected });
     assert_eq!(tested.ask(&close(X, 1, MADE_OF_1)), 22);
-    assert_eq!(tested.table, Table { next: 5, ..fresh });
+    let mut closed = Table { next: 5, ..fresh };
+    closed.customers[0] = kept(closed.customers[0]);
+    assert_eq!(tested.table, closed);
     assert_eq!(made(&mut tested, &nameless(X, 9, 42), 20), (1, MADE_OF_1.to_vec()));
 }
 
@@ -88,11 +101,19 @@ fn digits_are_lower_case_and_sender_comes_first() {
 fn two_hundred_of_a_pair() {
     let mut tested = alone();
     for id in 1..=200 {
-        assert_eq!(u32::from(made(&mut tested, &nameless(X, 0, id), 20).0), id);
+        for answer in [20, 21] {
+            assert_eq!(u32::from(made(&mut tested, &nameless(X, 0, id), answer).0), id);
+        }
     }
-    assert_eq!(tested.ask(&nameless(X, 0, 0)), 34);
+    assert_eq!(tested.ask(&nameless(X, 0, 201)), 34);
+    // Those before it are late now (A8), and found after a restart, which forgets that.
+    let full = read_back(&tested.table);
     for id in 1..=200 {
-        assert_eq!(u32::from(made(&mut tested, &nameless(X, 0, id), 21).0), id);
+        assert_eq!(tested.ask(&nameless(X, 0, id)), 16);
+        assert_eq!(
+            u32::from(made(&mut TestNode::with(full), &nameless(X, 0, id), 21).0),
+            id
+        );
     }
 }
 
@@ -191,16 +212,16 @@ fn share_comes_between_21_and_20() {
     let mut tested = TestNode::two();
     assert_eq!(tested.ask(&nameless(X, 9, 42)), 20);
     assert_eq!(tested.ask(&nameless(X, 9, 43)), 20);
+    assert_eq!(tested.ask(&nameless(X, 9, 43)), 21);
     assert_eq!(tested.ask(&nameless(X, 9, 44)), 34);
     // As received: Call ID 0 and Name Length 0.
     let refused = hex(
-        "1015 f2d5 ff00 0058 000c1801 00000009 0000002c 000c1701 01000007 00000003
+        "1015 f2d4 ff00 0058 000c1801 00000009 0000002c 000c1701 01000007 00000004
          000c0601 0a000002 00020000 00100107 0a000002 0000 0001 0a000001 0008c401 00000008
          0008cf07 00000000 000c0b07 0a000001 0000 0001",
     );
     assert_eq!(tested.reply, refused);
     assert_eq!(tested.reply.len(), 88);
-    assert_eq!(tested.ask(&nameless(X, 9, 43)), 21);
     // S is 64 without Y's guarantee used up.
     let mut tested = TestNode::two();
     tested.open_many(Y, 63);

@@ -40,14 +40,15 @@ fn the_layout_is_that_of_the_header() {
     let call = words!(Call endpoint Call sender Call refreshed Call epoch Call identifier Call id Call made Call size
         Call name Call places);
     assert_eq!(call, [0, 1, 2, 3, 4, 5, 6, 7, 8, 16]);
-    let customer = words!(Customer address Customer guarantee Customer limit Customer endpoints Customer places);
-    assert_eq!(customer, [0, 1, 2, 3, 7]);
+    let customer = words!(Customer address Customer guarantee Customer limit Customer kept Customer epoch
+        Customer identifier Customer endpoints Customer places);
+    assert_eq!(customer, [0, 1, 2, 3, 4, 5, 6, 10]);
     let table = words!(Table address Table epoch Table next Table time Table listed Table form Table occupied
         Table customers Table calls);
-    assert_eq!(table, [0, 1, 2, 3, 4, 5, 6, 14, 198]);
+    assert_eq!(table, [0, 1, 2, 3, 4, 5, 6, 14, 222]);
     let bytes = [size_of::<Place>(), size_of::<Call>(), size_of::<Customer>()];
-    assert_eq!(bytes, [16, 128, 92]);
-    assert_eq!((size_of::<Table>(), align_of::<Table>()), (4 * 6598, 4));
+    assert_eq!(bytes, [16, 128, 104]);
+    assert_eq!((size_of::<Table>(), align_of::<Table>()), (4 * 6622, 4));
 }
 
 #[test]

@@ -291,10 +291,7 @@ fn a_full_table_there_and_back() {
     let (answer, length) = write_checkpoint(&tested.table, &mut copy);
     assert_eq!((answer, length), (0, 4 + 55 * 200 + 18 * 832));
     assert_eq!(length, 25_980);
-    let due = Table {
-        next: 1,
-        ..tested.table
-    };
+    let due = read_back(&tested.table);
     for salvages in [false, true] {
         let read = read_checkpoint(salvages, &roster_2(&records), &copy[..length]);
         assert_eq!(read, (0, due, 0, 0));

@@ -31,7 +31,7 @@ listing-of-requires c κs = search needs
 returns : tie.Need-returns
 returns c =
     let z = c .before .before .before .before .before in
-    (rw (unfit-unlisted (tableOf (z .args .t .now)) (heldBy (z .args .x)) (sym (c .before .before .listing-of .ensures .0) ∙ not-true _ (c .if1 .taken))), z .pre .0)
+    (rw (unfit-unlisted (tableOf (z .args .t .now)) (heldBy (z .args .x)) (sym (c .before .before .listing-of .ensures .known) ∙ not-true _ (c .if1 .taken))), z .pre .0)
 
 seek-requires : tie.Need-seek-requires
 seek-requires c κs =
@@ -74,7 +74,7 @@ element-write-held c =
     omega (arith, q .inside (c .before .before .before .before .if2 .left), z .pre .0 .held .sized)
 
 customer-of-requires : tie.Need-customer-of-requires
-customer-of-requires c κs = sym (c .before .before .before .before .before .before .before .before .before .before .listing-of .ensures .0) ∙ not-false _ (c .before .before .before .before .before .before .before .before .if1 .left)
+customer-of-requires c κs = sym (c .before .before .before .before .before .before .before .before .before .before .listing-of .ensures .known) ∙ not-false _ (c .before .before .before .before .before .before .before .before .if1 .left)
 
 add-standalone-requires : tie.Need-add-standalone-requires
 add-standalone-requires c κs = search needs
@@ -90,7 +90,7 @@ returns-4 c =
     let x = heldBy (a .x) in
     let q = k .seek .ensures (held t) (z .pre .0 .held) in
     let new = sym (q .held) ∙ i2 .if2 .left in
-    let known = sym (c .before .before .before .before .before .before .before .before .before .before .before .before .before .listing-of .ensures .0) ∙ not-false _ (c .before .before .before .before .before .before .before .before .before .before .before .if1 .left) in
+    let known = sym (c .before .before .before .before .before .before .before .before .before .before .before .before .before .listing-of .ensures .known) ∙ not-false _ (c .before .before .before .before .before .before .before .before .before .before .before .if1 .left) in
     let fits = fits-alone t x (z .pre .0 .rules) (eqb-true _ 0 (z .pre .5)) known new (omega (arith, four-of _ _ _ (c .before .before .before .before .before .before .look-standalone .ensures))) in
     let e = c .add-standalone .ensures ∙ added-standalone t x (n .customer-of .result) (z .pre .5) (n .customer-of .ensures .0) in
     (rw fits e, rw e (goes-on (a .f) (a .s .now) (a .kept .now) (a .held .now) t x (a .k) (k .seek .result .at) (z .pre .0) (λ j. c .before .before .before .before .before .before .before .before .before .before .before .before .before .before .before .shared-slice-known .given j .fits) (z .pre .4) (z .pre .3) (q .free (i2 .if2 .left)) (q .inside (i2 .if2 .left)) fits))

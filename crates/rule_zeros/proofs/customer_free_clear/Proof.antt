@@ -10,6 +10,9 @@ use Rattle.rule_zeros.proofs.customer_free_clear.Tie as tie
 customer-four-requires : tie.Need-customer-four-requires
 customer-four-requires c κs = search needs
 
+kept-tidy-requires : tie.Need-kept-tidy-requires
+kept-tidy-requires c κs = search needs
+
 four-valid-requires : tie.Need-four-valid-requires
 four-valid-requires c κs = search needs
 
@@ -18,11 +21,12 @@ endpoints-clear-requires c κs = search needs
 
 returns : tie.Need-returns
 returns c =
-    let f = c .before .before in
+    let m = c .before .before in
+    let f = m .before in
     let a = f .before .args in
-    customer-by-four (customerAt (tableOf (a .t .now)) (a .k)) (fourAtWord (a .t .now) (f .customer-four .result)) _ _ (f .customer-four .ensures .0) (c .before .four-valid .ensures) (c .endpoints-clear .ensures)
+    customer-by-four (customerAt (tableOf (a .t .now)) (a .k)) (fourAtWord (a .t .now) (f .customer-four .result)) _ _ _ (f .customer-four .ensures .0) (m .kept-tidy .ensures) (c .before .four-valid .ensures) (c .endpoints-clear .ensures)
 
 pub customer-free-clear-spec : {M : Type 1} → statement M
 customer-free-clear-spec =
     tie.close
-    (tie.spec customer-four-requires four-valid-requires endpoints-clear-requires returns)
+    (tie.spec customer-four-requires kept-tidy-requires four-valid-requires endpoints-clear-requires returns)

@@ -47,7 +47,7 @@ returns-2 c =
     let q = m .before in
     let d = q .before .before in
     let same = ap (λ x. x .sender) (q .record-request .ensures .0) in
-    rw (sym (d .tidy .ensures) ∙ not-false _ (q .before .if1 .left), rw same at (sym (m .listing-of .ensures .0) ∙ not-true _ (c .if2 .taken))) at (law (d .before .before))
+    rw (sym (d .tidy .ensures) ∙ not-false _ (q .before .if1 .left), rw same at (sym (m .listing-of .ensures .known) ∙ not-true _ (c .if2 .taken))) at (law (d .before .before))
 
 short-in-use-requires : tie.Need-short-in-use-requires
 short-in-use-requires c κs = search needs
@@ -75,7 +75,7 @@ returns-4 c =
     let same = ap (λ x. x .sender) (q .record-request .ensures .0) in
     rw (
       sym (d .tidy .ensures) ∙ not-false _ (q .before .if1 .left),
-      rw same at (sym (m .listing-of .ensures .0) ∙ not-false _ (i2 .if2 .left)),
+      rw same at (sym (m .listing-of .ensures .known) ∙ not-false _ (i2 .if2 .left)),
       sym (u .request-in-use .ensures) ∙ c .if4 .taken,
     ) at (law (d .before .before))
 
@@ -93,7 +93,7 @@ returns-5 c =
     let same = ap (λ x. x .sender) (q .record-request .ensures .0) in
     rw (
       sym (d .tidy .ensures) ∙ not-false _ (q .before .if1 .left),
-      rw same at (sym (m .listing-of .ensures .0) ∙ not-false _ (i2 .if2 .left)),
+      rw same at (sym (m .listing-of .ensures .known) ∙ not-false _ (i2 .if2 .left)),
       sym (n .request-in-use .ensures) ∙ u .before .if4 .left,
       rw same at (sym (u .share-used-up .ensures) ∙ c .if5 .taken),
     ) at (law (d .before .before))
@@ -119,7 +119,7 @@ returns-6 c =
     rw (f .long, f .short, e)
     (rw (
       sym (d .tidy .ensures) ∙ not-false _ (q .before .if1 .left),
-      rw same at (sym (m .listing-of .ensures .0) ∙ not-false _ (i2 .if2 .left)),
+      rw same at (sym (m .listing-of .ensures .known) ∙ not-false _ (i2 .if2 .left)),
       sym (n .request-in-use .ensures) ∙ u .before .if4 .left,
       rw same at (sym (u .share-used-up .ensures) ∙ l .before .if5 .left),
     ) at (law z))

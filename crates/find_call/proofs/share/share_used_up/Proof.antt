@@ -9,9 +9,6 @@ use Rattle.table.specs.Total.{totalFor}
 use Rattle.find_call.proofs.share.share_used_up.Statement.{statement}
 use Rattle.find_call.proofs.share.share_used_up.Tie as tie
 
-listing-of-requires : tie.Need-listing-of-requires
-listing-of-requires c κs = search needs
-
 calls-of-requires : tie.Need-calls-of-requires
 calls-of-requires c κs = search needs
 
@@ -34,9 +31,9 @@ returns c =
     let f = c .before .before in
     let s = f .before .before .before in
     let total = c .before .total-for .ensures .0 ∙ ap totalFor (f .form .ensures) in
-    let m = s .before .before .listing-of .ensures in
-    by-numbers _ _ _ _ _ _ _ _ _ _ (s .before .calls-of .ensures) (m .2) (m .1) (s .share-sums .ensures .1) total
+    let m = s .before .before .pre in
+    by-numbers _ _ _ _ _ _ _ _ _ _ (s .before .calls-of .ensures) (m .limit) (m .guarantee) (s .share-sums .ensures .1) total
 
 pub share-used-up-spec : {M : Type 1} → statement M
 share-used-up-spec =
-    tie.close (tie.spec listing-of-requires calls-of-requires share-sums-requires form-requires total-for-requires returns)
+    tie.close (tie.spec calls-of-requires share-sums-requires form-requires total-for-requires returns)

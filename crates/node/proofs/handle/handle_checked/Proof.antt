@@ -5,7 +5,7 @@ use Rattle.table.specs.Lists.{roster}
 use Rattle.table.specs.Share.{isListed}
 use Rattle.table.specs.Words.{tableOf}
 use Rattle.answers.specs.declared.answer.Answer.the-variants.{Malformed, SenderNotListed}
-use Rattle.outcomes.proofs.Handled.{answered-faulty, answered-sound, form-refused, form-unfit, form-unfit-unlisted, form-sound, form-unlisted}
+use Rattle.outcomes.proofs.Handled.{answered-faulty, answered-read, form-refused, form-unfit, form-unfit-unlisted, form-listed, form-unlisted}
 use Rattle.outcomes.proofs.Unanswered.{left-quiet}
 use borrow.Author.Needs.{needs}
 use Rattle.node.proofs.handle.handle_checked.Statement.{statement}
@@ -37,7 +37,7 @@ returns c =
     let t = tableOf (s .args .t .now) in
     left-quiet t _ (Malformed _) _ (c .unanswered2 .ensures)
     ∙ sym (answered-faulty t _ _ (Malformed _)
-    (form-unfit _ _ _ (s .pre .1) _ _ _ (sym (r .read .ensures) ∙ k .before .before .before .x2 .given .1) (sym (k .listing-of .ensures .0) ∙ c .before .if1 .taken)))
+    (form-unfit _ _ _ _ (s .pre .1) _ _ _ (sym (r .read .ensures) ∙ k .before .before .before .x2 .given .1) (sym (k .listing-of .ensures .known) ∙ c .before .if1 .taken)))
 
 unanswered-requires-3 : tie.Need-unanswered-requires-3
 unanswered-requires-3 c κs = search needs
@@ -51,15 +51,15 @@ sender-of-requires c κs = search needs
 listing-of-requires-2 : tie.Need-listing-of-requires-2
 listing-of-requires-2 c κs = search needs
 
-handle-message-requires : tie.Need-handle-message-requires
-handle-message-requires c κs =
+handle-listed-requires : tie.Need-handle-listed-requires
+handle-listed-requires c κs =
     let k = c .before .before .before in
     let m = k .before in
     let r = m .before .before .before .before .before in
     let s = r .before .before .before in
     let t = tableOf (s .args .t .now) in
     let e = sym (r .read .ensures) ∙ m .before .before .before .x3 .given .1 in
-    (s .pre .0, sym (k .listing-of2 .ensures .0 ∙ ap (isListed (roster t)) (m .sender-of .ensures)) ∙ c .before .before .if2 .taken, read-inside _ _ _ e, s .pre .1)
+    (s .pre .0, sym (k .listing-of2 .ensures .known ∙ ap (isListed (roster t)) (m .sender-of .ensures)) ∙ c .before .before .if2 .taken, read-inside _ _ _ e, s .pre .1, rw (m .sender-of .ensures) at (k .listing-of2 .ensures))
 
 same-length : tie.Need-same-length
 same-length c = search needs
@@ -72,9 +72,9 @@ returns-2 c =
     let s = r .before .before .before in
     let t = tableOf (s .args .t .now) in
     let e = sym (r .read .ensures) ∙ m .before .before .before .x3 .given .1 in
-    c .before .before .handle-message .ensures
-    ∙ sym (answered-sound t _ _ _
-    (form-sound _ _ _ (s .pre .1) _ _ e (sym (k .listing-of2 .ensures .0 ∙ ap (isListed (roster t)) (m .sender-of .ensures)) ∙ c .before .before .before .before .before .if2 .taken)))
+    c .before .before .handle-listed .ensures
+    ∙ sym (answered-read t _ _ _
+    (form-listed _ _ _ _ (s .pre .1) _ _ e (sym (k .listing-of2 .ensures .known ∙ ap (isListed (roster t)) (m .sender-of .ensures)) ∙ c .before .before .before .before .before .if2 .taken)))
 
 unanswered-requires-4 : tie.Need-unanswered-requires-4
 unanswered-requires-4 c κs = search needs
@@ -85,7 +85,7 @@ returns-3 c =
     let s = r .before .before .before in
     let t = tableOf (s .args .t .now) in
     left-quiet t _ (Malformed _) _ (c .unanswered .ensures)
-    ∙ sym (answered-faulty t _ _ (Malformed _) (form-refused _ _ _ (s .pre .1) _ _ _ (sym (r .read .ensures) ∙ c .before .before .x .given .1)))
+    ∙ sym (answered-faulty t _ _ (Malformed _) (form-refused _ _ _ _ (s .pre .1) _ _ _ (sym (r .read .ensures) ∙ c .before .before .x .given .1)))
 
 returns-4 : tie.Need-returns-4
 returns-4 c =
@@ -95,7 +95,7 @@ returns-4 c =
     let t = tableOf (s .args .t .now) in
     left-quiet t _ SenderNotListed _ (c .unanswered3 .ensures)
     ∙ sym (answered-faulty t _ _ SenderNotListed
-    (form-unfit-unlisted _ _ _ (s .pre .1) _ _ _ (sym (r .read .ensures) ∙ k .before .before .before .x2 .given .1) (sym (k .listing-of .ensures .0) ∙ c .before .if1 .left)))
+    (form-unfit-unlisted _ _ _ _ (s .pre .1) _ _ _ (sym (r .read .ensures) ∙ k .before .before .before .x2 .given .1) (sym (k .listing-of .ensures .known) ∙ c .before .if1 .left)))
 
 returns-5 : tie.Need-returns-5
 returns-5 c =
@@ -106,8 +106,8 @@ returns-5 c =
     let t = tableOf (s .args .t .now) in
     left-quiet t _ SenderNotListed _ (c .unanswered4 .ensures)
     ∙ sym (answered-faulty t _ _ SenderNotListed
-    (form-unlisted _ _ _ (s .pre .1) _ _ (sym (r .read .ensures) ∙ m .before .before .before .x3 .given .1)
-    (sym (k .listing-of2 .ensures .0 ∙ ap (isListed (roster t)) (m .sender-of .ensures)) ∙ c .before .if2 .left)))
+    (form-unlisted _ _ _ _ (s .pre .1) _ _ (sym (r .read .ensures) ∙ m .before .before .before .x3 .given .1)
+    (sym (k .listing-of2 .ensures .known ∙ ap (isListed (roster t)) (m .sender-of .ensures)) ∙ c .before .if2 .left)))
 
 pub handle-checked-spec : {M : Type 1} → statement M
 handle-checked-spec =
@@ -124,7 +124,7 @@ handle-checked-spec =
     enum-known-x-3
     sender-of-requires
     listing-of-requires-2
-    handle-message-requires
+    handle-listed-requires
     same-length
     returns-2
     unanswered-requires-4

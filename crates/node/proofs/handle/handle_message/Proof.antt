@@ -7,7 +7,7 @@ enum-known-m : tie.Need-enum-known-m
 enum-known-m c = search needs
 
 open-requires : tie.Need-open-requires
-open-requires c κs = let p = rw (c .before .before .before .m .given .1) at (c .before .before .before .before .before .before .before .pre) in (p .0, p .1, p .2 .0, p .3)
+open-requires c κs = let p = rw (c .before .before .before .m .given .1) at (c .before .before .before .before .before .before .before .pre) in (p .0, p .1, p .2 .0, p .3, p .4)
 
 enum-known-m-2 : tie.Need-enum-known-m-2
 enum-known-m-2 c = search needs
@@ -19,7 +19,7 @@ enum-known-m-3 : tie.Need-enum-known-m-3
 enum-known-m-3 c = search needs
 
 add-connection-requires : tie.Need-add-connection-requires
-add-connection-requires c κs = rw (c .before .before .before .m3 .given .1) at (c .before .before .before .before .before .before .before .pre)
+add-connection-requires c κs = let p = rw (c .before .before .before .m3 .given .1) at (c .before .before .before .before .before .before .before .pre) in (p .0, p .1, p .2, p .3)
 
 enum-known-m-4 : tie.Need-enum-known-m-4
 enum-known-m-4 c = search needs
