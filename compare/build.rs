@@ -1,6 +1,5 @@
-//! Links the static library that the package needs, for the packages `compare` and `bench`. CHAFFMOOR_LIB names the
-//! folder that the libraries are in; without it, that is where `rt staticlib` leaves them. With the feature `stand_in`
-//! nothing is linked.
+//! Links the static libraries, for the comparison and, through it, the benchmark. CHAFFMOOR_LIB names the folder that
+//! they are in; without it, that is where `rt staticlib` leaves them. With the feature `stand_in` nothing is linked.
 
 use std::env;
 use std::path::{Path, PathBuf};
@@ -10,11 +9,12 @@ fn main() {
         return;
     }
     println!("cargo:rerun-if-env-changed=CHAFFMOOR_LIB");
-    let package = env::var("CARGO_PKG_NAME").expect("cargo names the package");
-    let library = match package.as_str() {
-        "bench" => "bench_parts",
-        _ => "chaffmoor",
-    };
+    for library in ["chaffmoor", "bench_parts"] {
+        link(library);
+    }
+}
+
+fn link(library: &str) {
     let archive = folder().join(format!("lib{library}.a"));
     println!("cargo:rerun-if-changed={}", archive.display());
     let archive = archive

@@ -1,5 +1,6 @@
-//! The first program, through its C interface (chaffmoor.h). The structs are those of the second program's
-//! `table` module, so that both programs' tables are of one type and `==` compares them word by word.
+//! The first program, through its C interface (chaffmoor.h), and its sum by itself (crates/bench_parts). The structs
+//! are those of the second program's `table` module, so that both programs' tables are of one type and `==` compares
+//! them word by word.
 
 use crate::layout::{Closings, Table, SLOTS};
 use second::{Clock, Closing};
@@ -52,6 +53,7 @@ extern "C" {
         checkpoint: *const u8,
         checkpoint_length: usize,
     ) -> CheckpointRead;
+    fn chaffmoor_part_sum(bytes: *const u8, length: usize, words: usize) -> u16;
 }
 
 /// A roster's answer. The table is afterwards the roster's, whatever it was.
@@ -107,4 +109,10 @@ pub fn read_checkpoint(table: &mut Table, salvage: bool, roster: &[u8], checkpoi
     // SAFETY: all pointers are good for their lengths, and the table overlaps with nothing; the library keeps none.
     let read = unsafe { chaffmoor_read_checkpoint(table, salvage, roster.as_ptr(), roster.len(), bytes, length) };
     (read.answer, read.calls, read.connections)
+}
+
+/// The one's complement sum of the first words of the bytes.
+pub fn words_sum(bytes: &[u8], words: usize) -> u16 {
+    // SAFETY: the pointer is good for `len` bytes, and the library only reads them.
+    unsafe { chaffmoor_part_sum(bytes.as_ptr(), bytes.len(), words) }
 }

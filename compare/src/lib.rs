@@ -43,6 +43,7 @@ pub mod source;
 #[cfg(feature = "stand_in")]
 mod stand_in;
 pub mod stream;
+pub mod sums;
 pub mod tables;
 pub mod tally;
 pub mod trials;

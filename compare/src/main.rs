@@ -1,6 +1,6 @@
 //! compare [SEED] [MESSAGES] [--captures FILE] [--checkpoints N]: exit 0 if the two programs agree on everything and
-//! all of 01's answers (with --checkpoints, A13's too) came often enough, 1 if not, 2 if the arguments or the file
-//! cannot be read.
+//! all of 01's answers (with --checkpoints, A13's too) and all kinds of sums came often enough, 1 if not, 2 if the
+//! arguments or the file cannot be read.
 
 use compare::run;
 use std::process::ExitCode;
@@ -20,9 +20,8 @@ fn main() -> ExitCode {
             return ExitCode::from(2);
         }
     };
-    let lines = compared(&arguments).and_then(|line| Ok((line, checkpoints(&arguments)?)));
-    match lines {
-        Ok((line, checkpoints)) => println!("{line}{checkpoints}"),
+    match lines(&arguments) {
+        Ok(lines) => println!("{}", lines.join("\n")),
         Err(what) => {
             println!("FAILED: {what}");
             return ExitCode::from(1);
@@ -61,7 +60,29 @@ fn number(word: &str) -> Result<u64, String> {
     word.parse().map_err(|_| format!("{word}: not a number"))
 }
 
-fn compared(arguments: &Arguments) -> Result<String, String> {
+/// What was compared, a line each. The sums are first: where they differ, checksums do, and the sums say it shortest.
+fn lines(arguments: &Arguments) -> Result<Vec<String>, String> {
+    let sums = sums(arguments.seed)?;
+    let messages = messages(arguments)?;
+    let checkpoints = checkpoints(arguments)?;
+    Ok([Some(messages), checkpoints, Some(sums)]
+        .into_iter()
+        .flatten()
+        .collect())
+}
+
+fn sums(seed: u64) -> Result<String, String> {
+    let tally = compare::sums::run(seed)?;
+    tally.print();
+    enough(tally.lacking())?;
+    Ok(format!(
+        "compared {} sums of {} byte strings: equal",
+        tally.sum_total(),
+        tally.strings
+    ))
+}
+
+fn messages(arguments: &Arguments) -> Result<String, String> {
     let tally = run::all(arguments.seed, arguments.messages, arguments.captures.as_deref())?;
     tally.print();
     enough(tally.lacking())?;
@@ -74,18 +95,18 @@ fn compared(arguments: &Arguments) -> Result<String, String> {
     ))
 }
 
-/// The line for checkpoints, empty without --checkpoints.
-fn checkpoints(arguments: &Arguments) -> Result<String, String> {
+/// The line for checkpoints, none without --checkpoints.
+fn checkpoints(arguments: &Arguments) -> Result<Option<String>, String> {
     let Some(count) = arguments.checkpoints else {
-        return Ok(String::new());
+        return Ok(None);
     };
     let tally = compare::checkpoints::run(arguments.seed, count)?;
     tally.print();
     enough(tally.lacking())?;
-    Ok(format!(
-        "\ncompared {} checkpoints, {} round trips: equal",
+    Ok(Some(format!(
+        "compared {} checkpoints, {} round trips: equal",
         tally.checkpoints, tally.round_trips
-    ))
+    )))
 }
 
 fn enough(lacking: Vec<String>) -> Result<(), String> {

@@ -139,3 +139,15 @@ unsafe extern "C" fn chaffmoor_part_read(message: *const u8, length: usize) -> u
 unsafe extern "C" fn chaffmoor_part_rules(table: *const Table) -> bool {
     second::Node::from_table(&*table).is_some()
 }
+
+/// For the comparison of sums (A5): the sum alone.
+///
+/// # Safety
+/// The pointer is good for its length.
+#[no_mangle]
+unsafe extern "C" fn chaffmoor_part_sum(bytes: *const u8, length: usize, words: usize) -> u16 {
+    if length > 65_535 || words > length / 2 {
+        return 0;
+    }
+    second::words_sum(&slice::from_raw_parts(bytes, length)[..2 * words])
+}

@@ -1,7 +1,7 @@
 //! 01, "Message layout": the checksum.
 
 /// The one's complement sum of the 16-bit words, carries brought round. `bytes` has an even length.
-fn sum(bytes: &[u8]) -> u16 {
+pub fn words_sum(bytes: &[u8]) -> u16 {
     let mut total: u32 = bytes
         .chunks_exact(2)
         .map(|pair| u32::from(u16::from_be_bytes([pair[0], pair[1]])))
@@ -14,12 +14,12 @@ fn sum(bytes: &[u8]) -> u16 {
 
 /// Whether a message with a checksum in it has the right one.
 pub(crate) fn is_right(message: &[u8]) -> bool {
-    sum(message) == 0xffff
+    words_sum(message) == 0xffff
 }
 
 /// The checksum to send, for a message whose checksum field is zero. A computed zero becomes FFFF.
 pub(crate) fn to_send(message: &[u8]) -> u16 {
-    match !sum(message) {
+    match !words_sum(message) {
         0 => 0xffff,
         checksum => checksum,
     }

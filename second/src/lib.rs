@@ -24,6 +24,7 @@ pub mod table;
 mod tests;
 
 pub use checkpoint::{read_checkpoint, write_checkpoint};
+pub use checksum::words_sum;
 pub use expiry::{Clock, Closing};
 pub use message::{read_message, Message};
 pub use node::{handle, Answered, Node};

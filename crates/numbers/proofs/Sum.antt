@@ -1,4 +1,5 @@
--- The checksum's sum: it leaves no carry, and a field that makes it up to FFFF does so.
+-- The checksum's sum: it leaves no carry, a carry may go round after each word, and a field that makes it up to FFFF does
+-- so.
 -- Assumes nothing.
 use Prim.Native.Nat.{ℕ, zero, suc, _+_, _*_, _-_, _/_, _%_, _≤_, _<_}
 use native.Mathlib.Omega.{arith}
@@ -13,12 +14,12 @@ use Rattle.numbers.specs.BigEndian.{Bytes, be16At, bytes16}
 use Rattle.numbers.specs.Checksum.{firstWords, allRound, wordsSum}
 use Rattle.numbers.specs.Claims.{NoCarryLeft}
 
-words-bound : (s : List ℕ) → Bytes s → (n : ℕ) → firstWords s n ≤ 65535 * n
+pub words-bound : (s : List ℕ) → Bytes s → (n : ℕ) → firstWords s n ≤ 65535 * n
 unfolding firstWords
 words-bound s b zero = omega arith
 words-bound s b (suc n) = omega (arith, words-bound s b n, b (2 * n), b (2 * n + 1))
 
-rounds : (t : ℕ) → t ≤ 65535 * 65536 → allRound t < 65536
+rounds : (t : ℕ) → t < 65536 * 65536 → allRound t < 65536
 unfolding allRound
 rounds t h = omega arith
 
@@ -26,7 +27,7 @@ pub no-carry-left : NoCarryLeft
 unfolding wordsSum
 no-carry-left s b h = rounds (firstWords s (length s / 2)) (omega (arith, words-bound s b (length s / 2)))
 
--- ---- the field that makes the sum FFFF
+-- ---- the carry after each word
 
 -- bringing carries round takes off so many times FFFF
 off : ℕ → ℕ
@@ -35,6 +36,34 @@ off t = t / 65536 + (t % 65536 + t / 65536) / 65536
 off-is : (t : ℕ) → t ≡ 65535 * off t + allRound t
 unfolding allRound off
 off-is t = omega arith
+
+-- 0 is left of 0 only
+some-left : (t : ℕ) → 1 ≤ t → 1 ≤ allRound t
+unfolding allRound
+some-left t h = omega arith
+
+-- two numbers from 1 to FFFF that differ by a multiple of FFFF are one
+one : (x y p q t : ℕ) → t ≡ 65535 * p + x → t ≡ 65535 * q + y → x < 65536 → y < 65536 → 1 ≤ x → 1 ≤ y → x ≡ y
+one x y p q t d e hx hy lx ly = omega arith
+
+-- a carry brought round now or with those to come: the same
+pub round-step : (t w : ℕ) → t + w < 65536 * 65536 → allRound (allRound t + w) ≡ allRound (t + w)
+round-step t w h = by (t + w) refl
+  where
+    less : allRound t + w ≤ t + w
+    less = omega (arith, off-is t)
+
+    some : (n m : ℕ) → t ≡ n → t + w ≡ suc m → 1 ≤ allRound t + w
+    some zero m e d = omega arith
+    some (suc n) m e d = omega (arith, some-left t (omega arith))
+
+    by : (n : ℕ) → t + w ≡ n → allRound (allRound t + w) ≡ allRound (t + w)
+    by zero e = omega (arith, less, off-is (allRound t + w), off-is (t + w))
+    by (suc n) e =
+        one _ _ (off t + off (allRound t + w)) (off (t + w)) (t + w) (omega (arith, off-is t, off-is (allRound t + w))) (off-is (t + w))
+        (rounds (allRound t + w) (omega (arith, less))) (rounds (t + w) h) (some-left (allRound t + w) (some t n refl e)) (some-left (t + w) (omega arith))
+
+-- ---- the field that makes the sum FFFF
 
 -- FFFF, and any number of times FFFF that is in reach, comes to FFFF
 times : (k : ℕ) → k ≤ 65535 → allRound (65535 * suc k) ≡ 65535

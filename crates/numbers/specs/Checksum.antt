@@ -17,6 +17,10 @@ carriesRound t = t % 65536 + t / 65536
 unfoldable pub allRound : ℕ → ℕ
 allRound t = carriesRound (carriesRound t)
 
+-- the sum of the words so far, the first n
+abbrev pub sumSoFar : List ℕ → ℕ → ℕ
+sumSoFar s n = allRound (firstWords s n)
+
 -- the sum of all words of s
 unfoldable pub wordsSum : List ℕ → ℕ
 wordsSum s = allRound (firstWords s (length s / 2))
