@@ -1,4 +1,6 @@
 // Open and close.
+#![tactic(auto)]
+
 pub mod named;
 pub mod nameless;
 mod sending;

@@ -1,4 +1,6 @@
 // Path and PathTear.
+#![tactic(auto)]
+
 ghost use Rattle.std.specs.Prelude.{◌≡◌, [], true, ◌+◌, ◌≤◌, leb, length};
 ghost use Rattle.numbers.specs.Buffer.{at_front};
 ghost use Rattle.messages.specs.Inside.{ConnectionInside};

@@ -1,5 +1,7 @@
 // Parts of handling a message by themselves, for benchmark and comparison: reading, the rule check, and the sum of the words
 // so far. Its static library stands beside chaffmoor's; the node does not use it.
+#![tactic(auto)]
+
 ghost use Rattle.std.specs.Prelude.{◌≡◌};
 ghost use Rattle.table.specs.Rules.{rules_hold};
 ghost use Rattle.table.specs.Words.{table_of};

@@ -1,5 +1,7 @@
 // The node's call side for programs in C and Rust: the static library's functions, with 01's numbers for answers. The
 // caller lends the table, and the node works in it in place. include/chaffmoor.h declares them.
+#![tactic(auto)]
+
 ghost use Rattle.std.specs.Prelude.{◌≡◌, eqb, length};
 ghost use Rattle.numbers.specs.Buffer.{at_front};
 ghost use Rattle.table.specs.Roster.{roster_number, roster_answer, table_for};

@@ -1,6 +1,8 @@
 // How what a checkpoint holds is spread: by the numbers that tell one from another, over 2,048 places. Four factors, made
 // of the checkpoint's bytes, decide the places, so that whoever chooses records that meet in one place changes the
 // factors by them. Only the time that a reading takes rests on this: every claim holds for any factors.
+#![tactic(auto)]
+
 ghost use Rattle.std.specs.Prelude.{◌≡◌, ◌*◌, ◌<◌};
 ghost use Rattle.checkpoint_chains.specs.Spread.{stirred_with, mixed_with, spread_over};
 

@@ -1,5 +1,7 @@
 // The connections of a checkpoint, one after another, each added where it fits. What the table holds stands in cells, so
 // that a connection, and its call, are found without a search through the table.
+#![tactic(auto)]
+
 ghost use Rattle.std.specs.Prelude.{◌≡◌, cond, true, false, ◌+◌, ◌<◌, length, eqb};
 ghost use Rattle.table.specs.Words.{table_of};
 ghost use Rattle.spec_changes.specs.Connections.{added};

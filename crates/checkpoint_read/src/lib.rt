@@ -1,5 +1,7 @@
 // A table read from a checkpoint of one (request A13): any bytes get an answer, and the lent table becomes the one that
 // goes with it.
+#![tactic(auto)]
+
 ghost use Rattle.std.specs.Prelude.{◌≡◌, [], true, ◌-◌, ◌+◌, ◌≤◌, ◌<◌, length, replicate};
 ghost use Rattle.table.specs.Lists.{held};
 ghost use Rattle.table.specs.Rules.{rules_hold};

@@ -1,3 +1,5 @@
 // The records of a checkpoint (request A13), each by itself: written, and read.
+#![tactic(auto)]
+
 pub mod read;
 pub mod write;

@@ -1,4 +1,6 @@
 // Writes a checkpoint (request A13).
+#![tactic(auto)]
+
 ghost use Rattle.std.specs.Prelude.{◌≡◌, true, ◌≤◌, length};
 ghost use Rattle.table.specs.Rules.{rules_hold};
 ghost use Rattle.table.specs.Words.{table_of};

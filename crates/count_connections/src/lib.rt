@@ -1,4 +1,6 @@
 // How many connections a table holds: under its calls, with its customers, and in all.
+#![tactic(auto)]
+
 ghost use Rattle.std.specs.Prelude.{◌≡◌, true, cond, ◌≤◌, ◌<◌, length, ltb};
 ghost use Rattle.lists.specs.Count.{count_if};
 ghost use Rattle.lists.specs.Below.{below};

@@ -1,5 +1,7 @@
 // Before a message (02, A7): the node's time is raised, and the calls that nobody refreshed are closed, and listed by slot
 // and address.
+#![tactic(auto)]
+
 ghost use Rattle.std.specs.Prelude.{◌≡◌, ◌&&◌, max, ◌+◌, ◌*◌, ◌≤◌, ◌<◌, length};
 ghost use Rattle.numbers.specs.Buffer.{at_front};
 ghost use Rattle.table.specs.Total.{slots};

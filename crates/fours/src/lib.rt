@@ -1,5 +1,7 @@
 // Four places for connections, a call's or a customer's of Call ID 0, by where they stand. Here and below, a four lies
 // within the table: `call_four` and `customer_four` promise that.
+#![tactic(auto)]
+
 ghost use Rattle.std.specs.Prelude.{◌≡◌, true, cond, not, ◌+◌, ◌≤◌, ◌<◌};
 ghost use Rattle.lists.specs.Count.{bit, count_if, has};
 ghost use Rattle.lists.specs.Below.{first_below};

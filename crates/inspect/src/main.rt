@@ -1,6 +1,8 @@
 // Reads messages and rosters from its standard input, one a line in hex, and prints what the node's layers
 // make of each. A line's last word is the hex, so a line may begin with a name; `roster` as its first word
 // makes it a roster; a line that begins with # is a comment. The input has up to 65,536 bytes.
+#![tactic(auto)]
+
 ghost use Rattle.std.specs.Prelude.{◌-◌, ◌*◌, ◌≤◌, length};
 
 use libc::STDOUT_FILENO;

@@ -1,5 +1,7 @@
 // Which slots are used: four words of 64 bits, one for each slot and some for no slot (01, Code places: trailing ones give
 // the free slot, the count of ones the open calls).
+#![tactic(auto)]
+
 ghost use Rattle.std.specs.Prelude.{◌≡◌, true, ◌≤◌, ◌<◌, length};
 ghost use Rattle.lists.specs.Chain.{last_below};
 ghost use Rattle.table.specs.Total.{slots};

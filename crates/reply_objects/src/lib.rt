@@ -1,4 +1,6 @@
 // Writes the parts of a reply: its header, one writer for each object, and the checksum.
+#![tactic(auto)]
+
 pub mod made;
 pub mod writers;
 

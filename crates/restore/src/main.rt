@@ -1,6 +1,8 @@
 // Reads a table back: three frames on standard input, a 32-bit length and that many bytes each: a mode byte (0 plain, 1
 // salvage), the roster, the copy. It prints the roster's answer, the copy's with how many records were dropped, and
 // what the table then holds. A cut frame prints `cut` and ends it.
+#![tactic(auto)]
+
 ghost use Rattle.std.specs.Prelude.{◌≡◌, ◌≤◌, ◌<◌, min};
 ghost use Rattle.table.specs.Total.{slots};
 ghost use Rattle.table_words.specs.Fours.{FourInside};

@@ -1,4 +1,6 @@
 // Reads a roster: any bytes get an answer, and the lent table becomes the one that goes with it.
+#![tactic(auto)]
+
 ghost use Rattle.std.specs.Prelude.{◌≡◌, ◌+◌, ◌*◌, ◌≤◌, ◌<◌, length};
 ghost use Rattle.lists.specs.Count.{has};
 ghost use Rattle.table.specs.Zeros.{empty_table};

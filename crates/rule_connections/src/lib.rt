@@ -1,5 +1,7 @@
 // The exact way to see that no connection is held twice: customer by customer, all pairs of its connections are compared.
 // Connections of two senders are never the same, and every sender is a customer.
+#![tactic(auto)]
+
 ghost use Rattle.std.specs.Prelude.{◌≡◌, ◌++◌, true, not, ◌||◌, ◌+◌, ◌≤◌, ◌<◌, ltb};
 ghost use Rattle.lists.specs.Count.{no_two};
 ghost use Rattle.table.specs.Total.{slots};

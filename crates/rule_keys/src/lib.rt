@@ -1,6 +1,8 @@
 // A quick test that nothing stands twice in the table. Each thing that may stand once has a key, a number, the same for
 // the same thing: where no two keys are equal, nothing stands twice. Keys of different things can be equal, so the test
 // may also fail of a table in which nothing does.
+#![tactic(auto)]
+
 ghost use Rattle.std.specs.Prelude.{◌≡◌, ◌++◌, true, ◌+◌, ◌≤◌, ◌<◌, eqb, take};
 ghost use Rattle.lists.specs.Count.{no_two};
 ghost use Rattle.lists.specs.Below.{element_if, list_if};

@@ -1,4 +1,6 @@
 // The rules on the roster and on how many calls each customer has.
+#![tactic(auto)]
+
 ghost use Rattle.std.specs.Prelude.{◌≡◌, true, ◌&&◌, ℕ, ◌<◌, length, get_or, replicate};
 ghost use Rattle.lists.specs.Count.{has, sum_of};
 ghost use Rattle.table.specs.Total.{slots, total_of};

@@ -1,5 +1,7 @@
 // The exact way to see that no pair has a short or a long Call ID, or a request, twice: every two open calls are compared. It is gone
 // where the keys of a table meet in few chains (rule_keys): it takes as long whatever the calls' IDs are.
+#![tactic(auto)]
+
 ghost use Rattle.std.specs.Prelude.{◌≡◌, true, ◌&&◌, ◌<◌};
 ghost use Rattle.lists.specs.Below.{every_below};
 ghost use Rattle.table.specs.Total.{slots};

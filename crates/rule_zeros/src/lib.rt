@@ -1,4 +1,6 @@
 // The rules on names, Call IDs and refreshes, and that what is free holds zeros.
+#![tactic(auto)]
+
 ghost use Rattle.std.specs.Prelude.{◌≡◌, cond, ◌&&◌, ◌||◌, ◌<◌, eqb, ltb, leb};
 ghost use Rattle.lists.specs.Below.{every_below};
 ghost use Rattle.table.specs.Total.{slots};

@@ -1,4 +1,6 @@
 // The test behind answer 1: every table rule, over the whole table.
+#![tactic(auto)]
+
 ghost use Rattle.std.specs.Prelude.{◌≡◌};
 ghost use Rattle.table.specs.Rules.{rules_hold};
 ghost use Rattle.table.specs.Words.{table_of};

@@ -1,6 +1,8 @@
 // The tap: frames on standard input, a 16-bit length and that many bytes each, the roster first and then messages. It
 // prints the roster's answer, and for each message its number, the answer and the reply's length. A cut frame prints
 // `cut` and ends it.
+#![tactic(auto)]
+
 use answers::answer::number;
 use expiry::{CLOSING_WORDS, Closings};
 use libc::{STDIN_FILENO, STDOUT_FILENO};

@@ -1,5 +1,7 @@
 // The changes that an answer makes to the connections of the table: added and removed, under a call or with a customer.
 // None of them is given a Call ID.
+#![tactic(auto)]
+
 ghost use Rattle.std.specs.Prelude.{◌≡◌, true, ◌<◌};
 ghost use Rattle.lists.specs.Count.{has};
 ghost use Rattle.table.specs.Total.{slots};
