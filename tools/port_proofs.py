@@ -16,14 +16,14 @@ import tempfile
 
 
 def dashed(name):
-    return name.replace("_", "-")
+    return name.replace("_", "-").lower()
 
 
 def blocks(text):
     """The declarations of a file: runs of lines that begin in column 0, with the comments above them."""
     found, lines, signed = [], [], False
     for line in text.split("\n"):
-        starts = line and not line[0].isspace()
+        starts = line and not line[0].isspace() and line[0] not in "})]"
         if starts and lines and not line.startswith("unfolding "):
             comment = all(l.startswith("--") for l in lines if l)
             name = re.match(r"(?:abbrev |unfoldable |pub |module )*([^\s:({]+)", line)
@@ -47,6 +47,7 @@ class Function:
     def __init__(self, told):
         self.told = told
         self.places = {p[0]: p for p in told["places"]}
+        self.arms = {p[0]: a for p, a in zip(told["places"], told["arms"]) if a}
 
     def step(self, place, field):
         """The new name of a step that is known at a place, by its old field name."""
@@ -56,6 +57,18 @@ class Function:
             if old and dashed(old) == want:
                 return new
             place = parent
+        return None
+
+    def arm(self, place, fields):
+        """A path into what an arm binds, as ARM.FIELD.., or None."""
+        while place:
+            row = self.arms.get(place)
+            if row:
+                name, _, parts = row
+                for new, old, way in sorted(parts, key=lambda part: -len(part[2])):
+                    if dashed(old) == dashed(fields[0]) and way and fields[1 : 1 + len(way)] == way:
+                        return [name, new] + fields[1 + len(way) :]
+            place = self.places[place][1]
         return None
 
     def up(self, place, n):
@@ -77,8 +90,13 @@ def rewritten(body, place, fn, said):
         if not fields:
             return ("place", at)
         head = fields[0]
+        if head == "well-formed" or head == "type-inv":
+            fields[0] = head = dashed(head).replace("-", "_")
         if head in ("args", "requires", "ranges", "type_inv", "lifetimes", "well_formed", "bounds", "utf8"):
             return ("path", "c." + ".".join(fields))
+        arm = fn.arm(at, fields)
+        if arm:
+            return ("path", "c." + ".".join(arm))
         new = fn.step(at, head)
         if new is None:
             said.append(f"no step {head} at {at}")
@@ -109,7 +127,9 @@ def rewritten(body, place, fn, said):
         return m.group(0)
 
     text = re.sub(r"let ([\w'₀-]+) = (c|[\w']+)((?:\.before)+) in\s*", lambda m: let(m) if m.group(2) == "c" or m.group(2) in alias else m.group(0), body)
-    return once(text)
+    text = once(text)
+    # the tests of `!x` say what `x` is
+    return re.sub(r"not-(?:true|false) _ (c\.if-not-[\w'-]+\.(?:true|false))", r"\1", text)
 
 
 def used(word, text):

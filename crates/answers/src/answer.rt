@@ -5,7 +5,7 @@ ghost use Rattle.answers.specs.Answers.{no_reply, by_notify, by_path_err, row_of
 use objects::fault;
 use objects::fault::Fault;
 
-#[derive(Drop)]
+#[derive(Clone, Copy)]
 pub enum Answer {
     // The table handed in breaks a table rule.
     TableBroken,
@@ -42,7 +42,7 @@ pub enum Answer {
 }
 
 // What an answer sends.
-#[derive(Drop)]
+#[derive(Clone, Copy)]
 pub enum Reply {
     Nothing,
     Notify,
@@ -51,7 +51,7 @@ pub enum Reply {
 
 // A row of document 01's table of answers: the number, what is sent, and the error code and value that it carries, 0
 // and 0 on success.
-#[derive(Drop)]
+#[derive(Clone, Copy)]
 pub struct AnswerRow {
     pub number: u8,
     pub reply: Reply,

@@ -21,7 +21,7 @@ use table::answer::roster_number;
 use table::layout::Words;
 
 #[repr(C)]
-#[derive(Drop)]
+#[derive(Clone, Copy)]
 pub struct MessageReply {
     pub answer: u8,
     pub length: usize,
@@ -29,14 +29,14 @@ pub struct MessageReply {
 }
 
 #[repr(C)]
-#[derive(Drop)]
+#[derive(Clone, Copy)]
 pub struct CheckpointWritten {
     pub answer: u8,
     pub length: usize,
 }
 
 #[repr(C)]
-#[derive(Drop)]
+#[derive(Clone, Copy)]
 pub struct CheckpointRead {
     pub answer: u8,
     pub calls: usize,

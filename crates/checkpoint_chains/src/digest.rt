@@ -6,13 +6,13 @@ ghost use Rattle.std.specs.Prelude.{◌+◌, ◌<◌, ◌≤◌, length};
 
 use numbers::big_endian::get32;
 
-#[derive(Drop)]
+#[derive(Clone, Copy)]
 pub struct Digest {
     pub one: u64,
     pub two: u64,
 }
 
-#[derive(Drop)]
+#[derive(Clone, Copy)]
 struct State {
     a: u64,
     b: u64,

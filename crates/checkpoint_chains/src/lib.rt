@@ -10,7 +10,7 @@ use crate::digest::digest_of;
 
 mod digest;
 
-#[derive(Drop)]
+#[derive(Clone, Copy)]
 pub struct Factors {
     pub first: u32,
     pub second: u32,

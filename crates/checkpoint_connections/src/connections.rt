@@ -17,7 +17,7 @@ use table_words::ids::{is_lsp, is_tunnel};
 pub type HeldCells = [u16; 3072];
 
 // Whether a connection is held; else the first free cell from its place on.
-#[derive(Drop)]
+#[derive(Clone, Copy)]
 pub struct Sought {
     pub held: bool,
     pub at: usize,

@@ -24,7 +24,7 @@ use table::layout::Words;
 mod filling;
 
 // What a reading answers, and how many records of calls, and of connections, are not in the table.
-#[derive(Drop)]
+#[derive(Clone, Copy)]
 pub struct Restored {
     pub answer: u8,
     pub calls: usize,

@@ -20,7 +20,7 @@ mod connections;
 mod slots;
 
 // Answer 0, 1 or 73, and how many bytes the checkpoint has.
-#[derive(Drop)]
+#[derive(Clone, Copy)]
 pub struct Written {
     pub answer: u8,
     pub length: usize,

@@ -14,7 +14,7 @@ use table::layout::Words;
 use table_words::calls::call_head;
 
 // Whether there is one, and its slot.
-#[derive(Drop)]
+#[derive(Clone, Copy)]
 pub struct MadeCall {
     pub known: bool,
     pub slot: usize,

@@ -22,7 +22,7 @@ use table_words::names::name_words;
 
 // What the open calls say of a request: both IDs name one call of the pair (`known`, in `slot`); the pair has the long
 // ID, the short ID in use; connections stand under its short ID.
-#[derive(Drop)]
+#[derive(Clone, Copy)]
 pub struct Look {
     pub known: bool,
     pub long: bool,

@@ -17,7 +17,7 @@ use table_words::customers::customer_head;
 use table_words::head::{form, listed};
 
 // What the roster says of an address: whether it is listed, in which record, its guarantee and its limit.
-#[derive(Drop)]
+#[derive(Clone, Copy)]
 pub struct Listing {
     pub known: bool,
     pub place: usize,

@@ -60,7 +60,7 @@ fn counts_at(t: &Words, f: FourPlace, j: usize, call: CallId, sender: u32, endpo
 
 // What a four says of a Path's connection: whether it holds it under another Call ID than its own, whether it holds it,
 // and how many of its four stand there.
-#[derive(Drop)]
+#[derive(Clone, Copy)]
 pub struct Match {
     pub other: bool,
     pub held: bool,
@@ -97,7 +97,7 @@ pub fn match_four(used: bool, t: &Words, f: FourPlace, x: Connection) -> Match
 
 // Where a search ends: whether the connection is held, and in which slot's call, or with which customer; 0 where it is
 // not.
-#[derive(Drop)]
+#[derive(Clone, Copy)]
 pub struct Found {
     pub held: bool,
     pub at: usize,

@@ -30,7 +30,7 @@ pub fn find_standalone(t: &Words, x: Lsp) -> Found
 
 // What the customers' places say of a Path's connection: held under another Call ID than its own, which is where its own
 // is not 0; held; how many of its four stand there.
-#[derive(Drop)]
+#[derive(Clone, Copy)]
 pub struct StandaloneLook {
     pub other: bool,
     pub held: bool,

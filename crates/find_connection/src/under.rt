@@ -37,7 +37,7 @@ pub fn find_under(t: &Words, x: Lsp) -> Found
 
 // What the open calls say of a Path's connection: held under another Call ID than its own; held; how many of its four
 // stand there; whether its call is open, and in which slot.
-#[derive(Drop)]
+#[derive(Clone, Copy)]
 pub struct UnderLook {
     pub other: bool,
     pub held: bool,

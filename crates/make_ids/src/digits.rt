@@ -46,7 +46,7 @@ pub(crate) fn number_of(word: u32) -> u32
 }
 
 // The digits of a pair, in the order of its names.
-#[derive(Drop)]
+#[derive(Clone, Copy)]
 pub(crate) struct PairDigits {
     pub sender_high: u32,
     pub sender_low: u32,

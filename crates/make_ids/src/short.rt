@@ -58,7 +58,7 @@ fn mark_of(n: u32) -> usize
 }
 
 // The numbers that a slot takes of a pair: its short ID, and the one that its name is made of. 0 stands for none.
-#[derive(Drop)]
+#[derive(Clone, Copy)]
 struct Taken {
     short: usize,
     name: usize,

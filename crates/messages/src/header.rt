@@ -7,14 +7,14 @@ use numbers::checksum::words_sum;
 use objects::fault::Fault;
 
 // The message types that the node takes.
-#[derive(Drop)]
+#[derive(Clone, Copy)]
 pub enum MessageType {
     Path,
     PathTear,
     Notify,
 }
 
-#[derive(Drop)]
+#[derive(Clone, Copy)]
 pub enum Header {
     Bad(Fault),
     Good(MessageType),

@@ -3,7 +3,7 @@ use objects::fields::{CallId, LspId, MessageId, Part, TunnelId};
 
 // What a Notify says of a call. The name, the long Call ID, and the objects that a reply sends back
 // stand in the message; `sequence` is its MESSAGE_ID.
-#[derive(Drop)]
+#[derive(Clone, Copy)]
 pub struct CallRequest {
     pub endpoint: u32,
     pub sender: u32,
@@ -16,7 +16,7 @@ pub struct CallRequest {
 }
 
 // What a connection is known by (01, Every answer): all that a search for it is given. The Call ID is no part of it.
-#[derive(Drop)]
+#[derive(Clone, Copy)]
 pub struct Lsp {
     pub endpoint: u32,
     pub tunnel: TunnelId,
@@ -26,7 +26,7 @@ pub struct Lsp {
 }
 
 // What a Path or a PathTear says of a connection, with the objects that a PathErr sends back.
-#[derive(Drop)]
+#[derive(Clone, Copy)]
 pub struct Connection {
     pub call: CallId,
     pub lsp: Lsp,
@@ -34,7 +34,7 @@ pub struct Connection {
     pub template: Part,
 }
 
-#[derive(Drop)]
+#[derive(Clone, Copy)]
 pub enum Message {
     Open(CallRequest),
     Close(CallRequest),

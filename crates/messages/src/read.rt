@@ -16,7 +16,7 @@ use objects::fields::{CallId, LspId, MessageId, Part, TunnelId};
 use objects::walk::{Objects, Walked, walk};
 
 // What a message of any bytes is read as. `headers` counts the object headers read, 0 before the walk.
-#[derive(Drop)]
+#[derive(Clone, Copy)]
 pub enum Reading {
     // Refused by a test from 3 to 10; the faulty object's place, 0 where no one object is at fault.
     Refused {

@@ -153,7 +153,7 @@ fn handle_checked(t: &mut Words, msg: &[u8], reply: &mut [u8]) -> Outcome
 
 // What handling a message gives back: the answer, the reply's length, 0 where none is sent, and how many calls were closed
 // before the message.
-#[derive(Drop)]
+#[derive(Clone, Copy)]
 pub struct Handling {
     pub answer: Answer,
     pub length: usize,

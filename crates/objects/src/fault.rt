@@ -2,7 +2,7 @@
 ghost use Rattle.std.specs.Prelude.{◌≡◌};
 ghost use Rattle.objects.specs.Faults.{fault_number};
 
-#[derive(Drop)]
+#[derive(Clone, Copy)]
 pub enum Fault {
     // The message's length.
     MessageLength,

@@ -24,7 +24,7 @@ pub const ADMIN_STATUS: u8 = 196;
 pub const SESSION_ATTRIBUTE: u8 = 207;
 
 // An object's header, with the place of its first byte in the message. `len` counts the header too.
-#[derive(Drop)]
+#[derive(Clone, Copy)]
 pub struct Object {
     pub class: u8,
     pub ctype: u8,
@@ -33,7 +33,7 @@ pub struct Object {
 }
 
 // What stands at a place of a message.
-#[derive(Drop)]
+#[derive(Clone, Copy)]
 pub enum Item {
     End,
     Faulty(Fault),

@@ -11,14 +11,14 @@ use crate::object::{
 use numbers::big_endian::get16;
 
 // Where the last object of a class stands, and how often one came. Place 0: none came.
-#[derive(Drop)]
+#[derive(Clone, Copy)]
 pub struct Seen {
     pub at: usize,
     pub times: usize,
 }
 
 // What the walk has seen of each class that is read, and how many object headers it read.
-#[derive(Drop)]
+#[derive(Clone, Copy)]
 pub struct Objects {
     pub session: Seen,
     pub error: Seen,
@@ -29,7 +29,7 @@ pub struct Objects {
     pub headers: usize,
 }
 
-#[derive(Drop)]
+#[derive(Clone, Copy)]
 pub enum Walked {
     // The faulty object's place, and the headers read, its own included.
     Stopped {

@@ -14,7 +14,7 @@ use reply_objects::writers::{
 const NOTIFY: u8 = 21;
 
 // What a Notify says: `acknowledged` is the received MESSAGE_ID, `own` the node's.
-#[derive(Drop)]
+#[derive(Clone, Copy)]
 pub struct Notify {
     pub acknowledged: MessageId,
     pub own: MessageId,

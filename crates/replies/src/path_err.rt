@@ -9,7 +9,7 @@ use reply_objects::writers::{ErrorSpec, fill_checksum, put_error_spec, put_heade
 const PATH_ERR: u8 = 3;
 
 // What a PathErr says. The parts are those of the message that it answers.
-#[derive(Drop)]
+#[derive(Clone, Copy)]
 pub struct PathErr {
     pub session: Part,
     pub error: ErrorSpec,

@@ -18,7 +18,7 @@ use objects::fields::{MessageId, Part};
 use objects::object::{ADMIN_STATUS, ERROR_SPEC, MESSAGE_ID, MESSAGE_ID_ACK};
 
 // What an ERROR_SPEC of ours says.
-#[derive(Drop)]
+#[derive(Clone, Copy)]
 pub struct ErrorSpec {
     pub node: u32,
     pub code: u8,

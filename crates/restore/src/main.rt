@@ -25,7 +25,7 @@ use table_words::names::{name_byte, name_size};
 // that no counts give, and is answered as the whole: 70.
 const COPY: usize = 1404860;
 
-#[derive(Drop)]
+#[derive(Clone, Copy)]
 enum Frame {
     Cut,
     Whole(usize),

@@ -12,7 +12,7 @@ pub type Links = [u16; 1432];
 pub type Keys = [u32; 1432];
 
 // How many keys are noted, and how many steps back through chains are left.
-#[derive(Drop)]
+#[derive(Clone, Copy)]
 pub struct Noted {
     pub count: usize,
     pub left: usize,

@@ -107,7 +107,7 @@ fn count_calls(counts: &mut [u32; 8], t: &Words)
 }
 
 // Whether a customer has more calls than its limit, S, and how many calls have a listed sender.
-#[derive(Drop)]
+#[derive(Clone, Copy)]
 pub struct Shares {
     pub over: bool,
     pub sum: usize,

@@ -2,7 +2,7 @@
 ghost use Rattle.std.specs.Prelude.{◌≡◌};
 ghost use Rattle.table.specs.Roster.{roster_number};
 
-#[derive(Drop)]
+#[derive(Clone, Copy)]
 pub enum RosterAnswer {
     Accepted,
     // Shorter than its fixed part.

@@ -15,11 +15,11 @@ use table::layout::{
 };
 
 // A table's word for a Call ID: any number, until the rules are known to hold.
-#[derive(Drop)]
+#[derive(Clone, Copy)]
 pub struct CallWord(pub u32);
 
 // A call's first eight words. Callers use a few of them, and the compiler loads no others.
-#[derive(Drop)]
+#[derive(Clone, Copy)]
 pub struct CallHead {
     pub endpoint: u32,
     pub sender: u32,

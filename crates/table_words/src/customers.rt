@@ -13,7 +13,7 @@ use table::layout::{
 };
 
 // Guarantee and limit are any words, until the rules are known to hold.
-#[derive(Drop)]
+#[derive(Clone, Copy)]
 pub struct CustomerHead {
     pub address: u32,
     pub guarantee: usize,
@@ -45,7 +45,7 @@ pub fn put_terms(t: &mut Words, k: usize, address: u32, guarantee: u32, limit: u
 
 // The last MESSAGE_ID that was accepted in a customer's Notify, and whether there is one (02, A8): any words, until the
 // rules are known to hold.
-#[derive(Drop)]
+#[derive(Clone, Copy)]
 pub struct LastWords {
     pub kept: u32,
     pub epoch: u32,

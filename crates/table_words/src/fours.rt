@@ -17,13 +17,13 @@ use table::layout::{
 };
 
 // A table's words for a Tunnel ID and an LSP ID: any numbers, until the rules are known to hold.
-#[derive(Drop)]
+#[derive(Clone, Copy)]
 pub struct TunnelWord(pub u32);
 
-#[derive(Drop)]
+#[derive(Clone, Copy)]
 pub struct LspWord(pub u32);
 
-#[derive(Drop)]
+#[derive(Clone, Copy)]
 pub struct PlaceWords {
     pub taken: u32,
     pub tunnel: TunnelWord,
@@ -33,7 +33,7 @@ pub struct PlaceWords {
 
 // Where a four stands: the Call ID and the sender of all its connections, the place of the end point, which is one for
 // all or one for each, and of the first of the four.
-#[derive(Drop)]
+#[derive(Clone, Copy)]
 pub struct FourPlace {
     pub call: CallWord,
     pub sender: u32,

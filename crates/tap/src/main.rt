@@ -12,7 +12,7 @@ use rosters::read_roster;
 use table::answer::roster_number;
 use table::layout::{WORDS, Words};
 
-#[derive(Drop)]
+#[derive(Clone, Copy)]
 enum Frame {
     End,
     Cut,

@@ -9,8 +9,7 @@ use Rattle.numbers.specs.Search.{is_in}
 use Rattle.lists.specs.Below.{every_below}
 use Rattle.lists.proofs.Below.{every_agree}
 use Rattle.objects.specs.Classes.{passed_over}
-use Rattle.objects.proofs.object.passed_over.Statement.{statement}
-use Rattle.objects.proofs.object.passed_over.Tie as tie
+use Rattle.objects.proofs.object.passed_over.Goals as goal
 
 ranges : ℕ → Bool
 ranges k =
@@ -22,9 +21,6 @@ ranges k =
     || (leb 34 k && leb k 37)
     || (leb 128 k && not (eqb k 196) && not (eqb k 207))
 
-returns : tie.Need-returns
+pub returns : goal.returns
 unfolding ranges passed_over is_in every_below
 returns c = every_agree ranges passed_over 256 refl c.args.class (search rules)
-
-pub passed_over_spec : {M : Type 1} → statement M
-passed_over_spec = tie.close (tie.spec returns)
