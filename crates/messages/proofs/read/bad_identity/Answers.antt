@@ -1,18 +1,16 @@
 -- `read::bad_identity` meets its contract: what opens a call may have neither ID; a name that is too long is 13 whatever
 -- it holds; else what was read is what the definition tests.
 use Prim.Native.Nat.{ℕ, ◌≤◌, ◌<◌}
-use mathlib.Core.Path.{◌≡◌, refl, sym, ap, ◌∙◌}
+use mathlib.Core.Path.{◌≡◌, refl, sym, ◌∙◌}
 use mathlib.Core.List.{List}
 use mathlib.Core.Bool.{Bool, true, false, not, ◌&&◌, ◌||◌, or-true, or-false}
 use lib.Dec.{eqb, ltb}
 use borrow.Author.Tests.{lt-ltb, le-ltb, not-true}
-use borrow.Author.Rules.{rules}
 use Rattle.lists.proofs.Tests.{both}
 use Rattle.objects.specs.Forms.{name_length}
 use Rattle.messages.specs.Fields.{call_id_at, long_size}
 use Rattle.messages.specs.Read.{is_nameless, bad_identity}
-use Rattle.messages.proofs.read.bad_identity.Statement.{statement}
-use Rattle.messages.proofs.read.bad_identity.Tie as tie
+use Rattle.messages.proofs.read.bad_identity.Goals as goal
 
 module _ (s : List ℕ) (closes : Bool) (session attribute : ℕ) where
   abbrev lacks : Bool
@@ -43,42 +41,13 @@ module _ (s : List ℕ) (closes : Bool) (session attribute : ℕ) where
       → call ≡ call_id_at s session → size ≡ long_size s attribute → (eqb call 0 || eqb size 0) ≡ bad_identity s closes session attribute
   tested call size e h p q = rw (p, q) (sym (e ∙ rw (le-ltb 32 (name_length s attribute) h) (or-false lacks)))
 
-add_get16 : tie.Need-overflow-add-get16
-add_get16 c = search rules
+pub returns-then-closes-nameless : goal.returns-then-closes-nameless
+returns-then-closes-nameless c = opens _ _ _ _ _ _ c.if-closes-nameless.true c.get16-call.ensures refl
 
-get16_requires : tie.Need-get16-requires
-get16_requires c κs = search rules
+pub returns-then-name-gt32 : goal.returns-then-name-gt32
+returns-then-name-gt32 c = too_long _ _ _ _ (asked _ _ _ _ _ _ c.if-closes-nameless.false c.get16-call.ensures refl) c.if-name-gt32.true
 
-add_name : tie.Need-overflow-add-name
-add_name c = search rules
-
-shared_slice_read_name : tie.Need-shared-slice-read-name
-shared_slice_read_name c = search rules
-
-returns : tie.Need-returns
-returns c = opens _ _ _ _ _ _ c.if1.true c.before.before.get16.ensures refl
-
-returns_2 : tie.Need-returns-2
-returns_2 c = too_long _ _ _ _ (asked _ _ _ _ _ _ c.before.if1.false c.before.before.before.get16.ensures refl) c.if2.true
-
-long_size_requires : tie.Need-long-size-requires
-long_size_requires c κs = search rules
-
-returns_3 : tie.Need-returns-3
-returns_3 c =
-    let i = c.before.before in
-    let g = i.before.before.get16.ensures in
-    tested _ _ _ _ _ _ (asked _ _ _ _ _ _ i.if1.false g refl) c.before.if2.false g c.long-size.ensures
-
-pub bad_identity_spec : {M : Type 1} → statement M
-bad_identity_spec =
-    tie.close
-    (tie.spec
-    add_get16
-    get16_requires
-    add_name
-    shared_slice_read_name
-    returns
-    returns_2
-    long_size_requires
-    returns_3)
+pub returns : goal.returns
+returns c =
+    let g = c.get16-call.ensures in
+    tested _ _ _ _ _ _ (asked _ _ _ _ _ _ c.if-closes-nameless.false g refl) c.if-name-gt32.false g c.long_size.ensures
