@@ -2,14 +2,7 @@
 use Rattle.std.proofs.Common.{ℕ, ◌-◌, ◌^◌, ap, ◌∙◌, rules}
 use lib.Bits.{bit_and}
 use Rattle.table.proofs.OneWord.{mask, and_clear_bit}
-use Rattle.table.proofs.word.with_clear.Statement.{statement}
-use Rattle.table.proofs.word.with_clear.Tie as tie
+use Rattle.table.proofs.word.with_clear.Goals as goal
 
-shl_result : tie.Need-overflow-shl-result
-shl_result c = search rules
-
-returns : tie.Need-returns
+pub returns : goal.returns
 returns c = ap (λ (m : ℕ). bit_and c.args.word (2 ^ 64 - 1 - m)) (mask c.args.i c.requires) ∙ and_clear_bit c.args.word c.args.i (search rules) c.requires
-
-pub with_clear_spec : {M : Type 1} → statement M
-with_clear_spec = tie.close (tie.spec shl_result returns)
