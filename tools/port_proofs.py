@@ -97,7 +97,7 @@ def rewritten(body, place, fn, said):
         arm = fn.arm(at, fields)
         if arm:
             return ("path", "c." + ".".join(arm))
-        new = fn.step(at, head)
+        new = fn.step(at, head) or fn.step(at, re.sub(r"_lem$", "", head))
         if new is None:
             said.append(f"no step {head} at {at}")
             new = head
@@ -265,6 +265,42 @@ def zip_loops(invariants, told, said):
     return out
 
 
+def substituted(text, to):
+    """The text with free names replaced: a name that a λ or a `(x : T)` binds stays, up to the enclosing bracket."""
+    out, stack, i = [], [set()], 0
+    while i < len(text):
+        ch = text[i]
+        m = re.match(r"λ((?: [^\s.(){}]+)+)\.", text[i:])
+        typed = re.match(r"λ \(([^:()]+) :", text[i:])
+        telescope = re.match(r"\(([^:(){}]+) : ", text[i:])
+        name = re.match(r"[A-Za-z_][\w'₀-]*", text[i:]) if i == 0 or not re.match(r"[\w.'₀-]", text[i - 1]) else None
+        if m:
+            stack[-1] = stack[-1] | set(m.group(1).split())
+            out.append(m.group(0))
+            i += len(m.group(0))
+        elif typed:
+            stack[-1] = stack[-1] | set(typed.group(1).split())
+            out.append("λ ")
+            i += 2
+        elif telescope and ch == "(":
+            stack[-1] = stack[-1] | set(telescope.group(1).split())
+            out.append(ch)
+            stack.append(set(stack[-1]))
+            i += 1
+        elif name:
+            word = name.group(0)
+            out.append(word if word in stack[-1] else to.get(word, word))
+            i += len(word)
+        else:
+            if ch in "([{":
+                stack.append(set(stack[-1]))
+            elif ch in ")]}" and len(stack) > 1:
+                stack.pop()
+            out.append(ch)
+            i += 1
+    return "".join(out)
+
+
 def invariant(block, kind, loop, names, changed, said):
     lines = block.split("\n")
     k = next(i for i, l in enumerate(lines) if ": tie." in l)
@@ -281,11 +317,7 @@ def invariant(block, kind, loop, names, changed, said):
         to[p] = "l.initial." + n if i else "l." + n
     rest = body[m.end() :]
 
-    def one(mm):
-        return to.get(mm.group(0), mm.group(0))
-
-    bound = set()
-    rest = re.sub(r"(?<![\w.'₀-])[A-Za-z_][\w'₀-]*", one, rest)
+    rest = substituted(rest, to)
     new = f"{kind}-{loop}"
     return "\n".join(comment + [f"abbrev pub {new} : goal.{new}"] + opened + [f"{new} l ={rest}"])
 

@@ -1,0 +1,7 @@
+-- `head::set_time` meets its contract.
+use native.Mathlib.Omega.{arith}
+use Rattle.table_words.proofs.Stored.{head_stored}
+use Rattle.table_words.proofs.head.set_time.Goals as goal
+
+pub returns : goal.returns
+returns c = let a = c.args in head_stored a.t.now 3 a.time c.sized.ensures (omega arith)
