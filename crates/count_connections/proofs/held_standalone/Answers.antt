@@ -1,0 +1,18 @@
+use Prim.Native.Nat.{◌-◌}
+use native.Mathlib.Omega.{arith}
+use mathlib.Core.Path.{◌≡◌, refl, sym}
+use Rattle.lists.proofs.Below.{count_none, count_turns}
+use Rattle.count_connections.proofs.held_standalone.Goals as goal
+
+pub loop-k-init : goal.loop-k-init
+loop-k-init c = (omega arith, omega arith, sym (count_none _ _))
+
+pub loop-k-preserved : goal.loop-k-preserved
+loop-k-preserved c =
+    let e = c.taken_in_record-n.ensures in
+    (omega arith, omega (arith, e.1), count_turns _ _ _ _ _ _ _ refl c.loop-k.invariant.2 (rw (← c.listed-listed.ensures) e.0))
+
+pub returns : goal.returns
+returns c =
+    let e : c.loop-k.k ≡ 8 = omega arith in
+    (rw e at c.loop-k.invariant.2, omega arith)

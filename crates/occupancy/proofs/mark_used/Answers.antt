@@ -1,0 +1,16 @@
+-- `mark_used` meets its contract: one word is stored, with the slot's bit set.
+use mathlib.Core.Path.{ap, ◌∙◌}
+use Prim.Native.Nat.{ℕ, ◌/◌, ◌%◌}
+use lib.ListN.{set}
+use Rattle.table.specs.Word.{with_set, with_used}
+use Rattle.table.specs.Stores.{with_occupied}
+use Rattle.table.specs.Words.{table_of}
+use Rattle.occupancy.proofs.mark_used.Goals as goal
+
+pub returns : goal.returns
+unfolding with_used
+returns c =
+    let t = table_of c.args.t.now in
+    let slot = c.args.slot in
+    c.set_used_word.ensures
+    ∙ ap (λ (w : ℕ). with_occupied t (set t.occupied (slot / 64) w)) (c.with_set-word.ensures ∙ ap (λ (w : ℕ). with_set w (slot % 64)) c.used_word.ensures)

@@ -1,0 +1,13 @@
+-- `guarantee_in` meets its contract, form by form.
+use borrow.Author.Tests.{ne_eqb}
+use Rattle.table.specs.Roster.{guarantee_in}
+use native.Mathlib.Omega.{arith}
+use Rattle.rosters.proofs.guarantee_in.Goals as goal
+
+pub returns-then-form-eq2 : goal.returns-then-form-eq2
+unfolding guarantee_in
+returns-then-form-eq2 c = (rw c.if-form-eq2.true, omega arith)
+
+pub returns-else-form-eq2 : goal.returns-else-form-eq2
+unfolding guarantee_in
+returns-else-form-eq2 c = (rw (ne_eqb _ 2 c.if-form-eq2.false), omega arith)

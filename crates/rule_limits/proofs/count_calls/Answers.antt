@@ -1,0 +1,34 @@
+use Prim.Native.Nat.{◌-◌}
+use native.Mathlib.Omega.{arith}
+use mathlib.Core.Path.{◌≡◌, sym, ap, ◌∙◌}
+use mathlib.Core.Logic.{⊎_elim}
+use Rattle.table.specs.Lists.{customer_at}
+use Rattle.table.specs.Words.{table_of}
+use Rattle.table.proofs.Slots.{open_rest}
+use Rattle.rule_limits.specs.Tally.{calls_each}
+use Rattle.rule_limits.proofs.Counted.{calls_most, each_length, each_at, each_none, each_used, each_free}
+use Rattle.rule_limits.proofs.count_calls.Goals as goal
+
+pub loop-i-init : goal.loop-i-init
+loop-i-init c = (omega arith, c.requires ∙ each_none _)
+
+pub tally-requires : goal.tally-requires
+tally-requires c =
+    let t = table_of c.args.t.now in
+    let e = c.loop-i.invariant.1 in
+    (rw e (each_length t _), λ k h. rw (e, each_at t _ k h) (omega (arith, calls_most t (customer_at t k).address c.loop-i.i, c.used_below-n.ensures.0)))
+
+pub loop-i-preserved : goal.loop-i-preserved
+loop-i-preserved c =
+    let t = table_of c.args.t.now in
+    let used = c.is_used.ensures in
+    ⊎_elim
+    (λ y. (omega arith, y.5 ∙ y.4.ensures ∙ rw (c.loop-i.invariant.1, c.addresses-a.ensures, y.1.ensures) (each_used t c.loop-i.i (sym used ∙ y.0.taken))))
+    (λ y. (omega arith, y.1 ∙ c.loop-i.invariant.1 ∙ each_free t c.loop-i.i (sym used ∙ y.0.left)))
+    c.if-is_used.branch
+
+pub returns : goal.returns
+returns c =
+    let t = table_of c.args.t.now in
+    let e : c.loop-i.i ≡ c.used_below-n.result = omega arith in
+    rw e at c.loop-i.invariant.1 ∙ ap (calls_each t) (sym (open_rest t _ c.used_below-n.ensures.0 c.used_below-n.ensures.1))
