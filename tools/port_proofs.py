@@ -127,7 +127,7 @@ def rewritten(body, place, fn, said):
         return m.group(0)
 
     text = re.sub(r"let ([\w'₀-]+) = (c|[\w']+)((?:\.before)+) in\s*", lambda m: let(m) if m.group(2) == "c" or m.group(2) in alias else m.group(0), body)
-    text = once(text)
+    text = re.sub(r"\.(type|well)-(inv|formed)\b", r".\1_\2", once(text))
     # the tests of `!x` say what `x` is
     return re.sub(r"not-(?:true|false) _ (c\.if-not-[\w'-]+\.(?:true|false))", r"\1", text)
 

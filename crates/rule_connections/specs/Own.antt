@@ -7,9 +7,9 @@ use Rattle.table.specs.Word.{is_used}
 use Rattle.table.specs.Lists.{customer_at, call_at, Held, call_four, customer_four, held_in}
 
 -- those of a slot, where its call is from an address
-abbrev pub field_own : Table → ℕ → ℕ → List Held
-field_own t address i = list_if (is_used t.occupied i && eqb (call_at t i).sender address) (held_in (call_four (call_at t i)))
+abbrev pub own_at : Table → ℕ → ℕ → List Held
+own_at t address i = list_if (is_used t.occupied i && eqb (call_at t i).sender address) (held_in (call_four (call_at t i)))
 
 -- those under the calls of customer k, then those of Call ID 0
 abbrev pub own : Table → ℕ → List Held
-own t k = below (field_own t (customer_at t k).address) slots ++ held_in (customer_four (customer_at t k))
+own t k = below (own_at t (customer_at t k).address) slots ++ held_in (customer_four (customer_at t k))

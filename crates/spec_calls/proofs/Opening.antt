@@ -98,7 +98,7 @@ module _ (l : List Entry) (s : List ℕ) (q : CallRequest) where
       known = known;
       new_short = has_false _ l short;
       new_long = has_false _ l long;
-      new_request = has_false _ l (has_nothing _ l (λ e. refl));
+      new_request = has_false (same_request (entry_for slot named_call)) l (has_nothing (same_request (entry_for slot named_call)) l (λ e. refl));
       under = share.0;
       share = share.1;
     }

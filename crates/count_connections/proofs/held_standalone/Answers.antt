@@ -1,3 +1,4 @@
+use mathlib.Core.Bool.{true}
 use Prim.Native.Nat.{◌-◌}
 use native.Mathlib.Omega.{arith}
 use mathlib.Core.Path.{◌≡◌, refl, sym}
@@ -5,12 +6,12 @@ use Rattle.lists.proofs.Below.{count_none, count_turns}
 use Rattle.count_connections.proofs.held_standalone.Goals as goal
 
 pub loop-k-init : goal.loop-k-init
-loop-k-init c = (omega arith, omega arith, sym (count_none _ _))
+loop-k-init c = (omega arith, omega arith, sym (count_none _ (λ x. true)))
 
 pub loop-k-preserved : goal.loop-k-preserved
 loop-k-preserved c =
     let e = c.taken_in_record-n.ensures in
-    (omega arith, omega (arith, e.1), count_turns _ _ _ _ _ _ _ refl c.loop-k.invariant.2 (rw (← c.listed-listed.ensures) e.0))
+    (omega arith, omega (arith, e.1), count_turns _ (λ x. true) _ _ _ _ _ refl c.loop-k.invariant.2 (rw (← c.listed-listed.ensures) e.0))
 
 pub returns : goal.returns
 returns c =

@@ -1,3 +1,4 @@
+use mathlib.Core.Bool.{true}
 use Prim.Native.Nat.{◌-◌}
 use native.Mathlib.Omega.{arith}
 use mathlib.Core.Path.{◌≡◌, refl, sym}
@@ -6,12 +7,12 @@ use Rattle.table.specs.Total.{slots}
 use Rattle.count_connections.proofs.held_under_calls.Goals as goal
 
 pub loop-i-init : goal.loop-i-init
-loop-i-init c = (omega arith, omega arith, sym (count_none _ _))
+loop-i-init c = (omega arith, omega arith, sym (count_none _ (λ x. true)))
 
 pub loop-i-preserved : goal.loop-i-preserved
 loop-i-preserved c =
     let e = c.taken_in_slot-n.ensures in
-    (omega arith, omega (arith, e.1), count_turns _ _ _ _ _ _ _ refl c.loop-i.invariant.2 e.0)
+    (omega arith, omega (arith, e.1), count_turns _ (λ x. true) _ _ _ _ _ refl c.loop-i.invariant.2 e.0)
 
 pub returns : goal.returns
 returns c =

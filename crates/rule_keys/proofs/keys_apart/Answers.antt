@@ -16,6 +16,7 @@ use Rattle.rule_keys.specs.declared.chains.Noted.{Noted}
 use Rattle.rule_keys.specs.Keys.{held_keys, call_keys_at}
 use Rattle.rule_keys.proofs.Passes.{nothing_noted, pass_turn, slots_passed, customer_listed, customer_unlisted}
 use Rattle.rule_keys.proofs.keys_apart.Goals as goal
+use Rattle.rule_keys.proofs.keys_apart.Goals.{then-k-listed, else-k-listed}
 
 pub loop-i-init : goal.loop-i-init
 loop-i-init c = (omega arith, nothing_noted 2048, sym (below_none _), omega arith)
@@ -43,15 +44,15 @@ loop-k-preserved c =
     let i = c.loop-k.invariant in
     let m = take c.loop-k.noted.count c.loop-k.keys in
     let turn = pass_turn (λ j. list_if (ltb j listed) (held_keys (held_in (customer_four (customer_at t j))))) k (below (call_keys_at t) slots) m in
-    ⊎_elim
-    (λ y.
-    let e = y.5.ensures in
-    let one = customer_listed t listed k (four_at_word w y.4.result) m _ y.0.taken y.4.ensures.0 e.1 in
-    (omega arith, rw (y.6, y.7, y.8, y.9) e.0, rw (y.8, y.9) (turn _ i.2 one), omega (arith, ap (λ (a : Noted). a.count) y.9, e.2)))
-    (λ y.
-    let none = customer_unlisted t listed k m y.0.left in
-    (omega arith, rw (y.1, y.2, y.3, y.4) i.1, rw (y.3, y.4) (turn _ i.2 none), omega (arith, ap (λ (a : Noted). a.count) y.4, i.3)))
-    c.if-k-listed.branch
+    elim c.if-k-listed.branch [
+      then-k-listed y ↦
+        let e = y.note_four-noted.ensures in
+        let one = customer_listed t listed k (four_at_word w y.customer_four.result) m _ y.if-k-listed.true y.customer_four.ensures.0 e.1 in
+        (omega arith, rw (y.heads-is, y.links-is, y.keys-is, y.noted-is) e.0, rw (y.keys-is, y.noted-is) (turn _ i.2 one), omega (arith, ap (λ (a : Noted). a.count) y.noted-is, e.2))
+      | else-k-listed y ↦
+        let none = customer_unlisted t listed k m y.if-k-listed.false in
+        (omega arith, rw (y.heads-is, y.links-is, y.keys-is, y.noted-is) i.1, rw (y.keys-is, y.noted-is) (turn _ i.2 none), omega (arith, ap (λ (a : Noted). a.count) y.noted-is, i.3))
+    ]
 
 pub returns : goal.returns
 returns c =

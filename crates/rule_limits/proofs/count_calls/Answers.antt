@@ -8,6 +8,7 @@ use Rattle.table.proofs.Slots.{open_rest}
 use Rattle.rule_limits.specs.Tally.{calls_each}
 use Rattle.rule_limits.proofs.Counted.{calls_most, each_length, each_at, each_none, each_used, each_free}
 use Rattle.rule_limits.proofs.count_calls.Goals as goal
+use Rattle.rule_limits.proofs.count_calls.Goals.{then-is_used, else-is_used}
 
 pub loop-i-init : goal.loop-i-init
 loop-i-init c = (omega arith, c.requires ∙ each_none _)
@@ -22,10 +23,10 @@ pub loop-i-preserved : goal.loop-i-preserved
 loop-i-preserved c =
     let t = table_of c.args.t.now in
     let used = c.is_used.ensures in
-    ⊎_elim
-    (λ y. (omega arith, y.5 ∙ y.4.ensures ∙ rw (c.loop-i.invariant.1, c.addresses-a.ensures, y.1.ensures) (each_used t c.loop-i.i (sym used ∙ y.0.taken))))
-    (λ y. (omega arith, y.1 ∙ c.loop-i.invariant.1 ∙ each_free t c.loop-i.i (sym used ∙ y.0.left)))
-    c.if-is_used.branch
+    elim c.if-is_used.branch [
+      then-is_used y ↦ (omega arith, y.counts-is ∙ y.tally.ensures ∙ rw (c.loop-i.invariant.1, c.addresses-a.ensures, y.call_head-c.ensures) (each_used t c.loop-i.i (sym used ∙ y.if-is_used.true)))
+      | else-is_used y ↦ (omega arith, y.counts-is ∙ c.loop-i.invariant.1 ∙ each_free t c.loop-i.i (sym used ∙ y.if-is_used.false))
+    ]
 
 pub returns : goal.returns
 returns c =

@@ -14,7 +14,7 @@ loop-k-preserved c =
     let w = c.args.t.now in
     let x = c.name_word-w.result in
     let e = c.name_word-w.ensures in
-    let f = c.name_word-w.type-inv in
+    let f = c.name_word-w.type_inv in
     let under = c.loop-k-test.true in (
       omega arith,
       clear_turn w c.args.masks.now c.args.i l.k x c.args.size c.requires.0 under c.requires.2 c.requires.3 e f _ l.invariant.1,
