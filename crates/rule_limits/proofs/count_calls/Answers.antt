@@ -24,7 +24,7 @@ loop-i-preserved c =
     let t = table_of c.args.t.now in
     let used = c.is_used.ensures in
     elim c.if-is_used.branch [
-      then-is_used y ↦ (omega arith, y.counts-is ∙ y.tally.ensures ∙ rw (c.loop-i.invariant.1, c.addresses-a.ensures, y.call_head-c.ensures) (each_used t c.loop-i.i (sym used ∙ y.if-is_used.true)))
+      | then-is_used y ↦ (omega arith, y.counts-is ∙ y.tally.ensures ∙ rw (c.loop-i.invariant.1, c.addresses-a.ensures, y.call_head-c.ensures) (each_used t c.loop-i.i (sym used ∙ y.if-is_used.true)))
       | else-is_used y ↦ (omega arith, y.counts-is ∙ c.loop-i.invariant.1 ∙ each_free t c.loop-i.i (sym used ∙ y.if-is_used.false))
     ]
 

@@ -1,0 +1,16 @@
+-- `four::holds` meets its contract: after `j` turns it knows of the first `j` places.
+use Prim.Native.Nat.{◌≤◌, ◌-◌}
+use mathlib.Core.Path.{◌≡◌}
+use Rattle.lists.specs.Count.{has}
+use Rattle.lists.specs.Below.{below}
+use Rattle.table.specs.Lists.{held_place}
+use Rattle.table.specs.Rules.{is_lsp}
+use Rattle.table_words.specs.Fours.{four_at_word}
+use Rattle.spec_calls.specs.PathRules.{lsp_of}
+use Rattle.find_connection.proofs.four.holds.Given as goal
+
+abbrev pub invariant-loop-j : goal.invariant-loop-j
+invariant-loop-j l = (l.j ≤ 4) × (l.held ≡ has (is_lsp (lsp_of l.x)) (below (held_place (four_at_word l.t l.f)) l.j))
+
+abbrev pub decreases-loop-j : goal.decreases-loop-j
+decreases-loop-j l = 4 - l.j
