@@ -59,6 +59,15 @@ class Function:
             place = parent
         return None
 
+    def callee(self, place, field):
+        want = dashed(field)
+        while place:
+            _, parent, (old, new), callee, _ = self.places[place]
+            if old and dashed(old) == want:
+                return callee
+            place = parent
+        return None
+
     def arm(self, place, fields):
         """A path into what an arm binds, as ARM.FIELD.., or None."""
         while place:
@@ -81,6 +90,8 @@ def rewritten(body, place, fn, said):
     """An answer's text with its paths from `c`; aliases that stand for a place are written out."""
     alias = {}
 
+    goal_at = place
+
     def path(place, rest):
         fields = rest.split(".") if rest else []
         n = 0
@@ -94,10 +105,15 @@ def rewritten(body, place, fn, said):
             fields[0] = head = dashed(head).replace("-", "_")
         if head in ("args", "requires", "ranges", "type_inv", "lifetimes", "well_formed", "bounds", "utf8"):
             return ("path", "c." + ".".join(fields))
-        arm = fn.arm(at, fields)
+        # the kits differ in how far `before` goes, and a step's name is its own: it is looked for from the goal on
+        arm = fn.arm(goal_at, fields)
         if arm:
             return ("path", "c." + ".".join(arm))
-        new = fn.step(at, head) or fn.step(at, re.sub(r"_lem$", "", head))
+        new = fn.step(goal_at, head) or fn.step(goal_at, re.sub(r"_lem$", "", head))
+        if new and len(fields) > 2 and fields[1] == "new" and fields[2].isdigit():
+            names = fn.told["params"].get(fn.callee(goal_at, head), [])
+            if int(fields[2]) < len(names):
+                fields[2] = names[int(fields[2])]
         if new is None:
             said.append(f"no step {head} at {at}")
             new = head
@@ -129,7 +145,10 @@ def rewritten(body, place, fn, said):
     text = re.sub(r"let ([\w'₀-]+) = (c|[\w']+)((?:\.before)+) in\s*", lambda m: let(m) if m.group(2) == "c" or m.group(2) in alias else m.group(0), body)
     text = re.sub(r"\.(type|well)-(inv|formed)\b", r".\1_\2", once(text))
     # the tests of `!x` say what `x` is
-    return re.sub(r"not-(?:true|false) _ (c\.if-not-[\w'-]+\.(?:true|false))", r"\1", text)
+    test = r"(c\.if-not-[\w'-]+\.(?:true|false))"
+    text = re.sub(r"not-(?:true|false) _ " + test, r"«\1»", text)
+    text = re.sub(r"(?<!«)" + test + r"(?![\w'-])", r"(ap not \1)", text)
+    return re.sub(r"«(c\.[^»]*)»", r"\1", text)
 
 
 def used(word, text):
@@ -200,7 +219,7 @@ def turn(path, module, told, crate):
             body = rewritten(body, at, fn, said)
             if re.search(r"κs", body):
                 said.append(f"{name} names κs")
-            answers.append("\n".join(comment + [f"pub {new} : goal.{new}"] + opened + [f"{new} c ={m.group(3)}{body}"]))
+            answers.append("\n".join(comment + [f"pub {new} : goal.{new}"] + opened + [f"{new} c{m.group(3)} ={body}"]))
         elif re.match(r"(?:abbrev )?(invariant|decreases)[_-]", name) or re.search(r": tie\.(invariant|decreases)", block):
             invariants.append(block)
         elif re.search(r"\btie\.", block):
@@ -233,6 +252,10 @@ def turn(path, module, told, crate):
     body = "\n\n".join(helpers + answers)
     if answers:
         lines = imports(uses, body)
+        if "(ap not c." in body:
+            for word, module_of in (("ap", "mathlib.Core.Path"), ("not", "mathlib.Core.Bool")):
+                if not any(re.search(r"[{ ]" + word + r"[,}]", l) for l in lines):
+                    lines.append(f"use {module_of}.{{{word}}}")
         names = [name_of(h) for h in moved if used(name_of(h), body)]
         if names:
             lines.append(f"use Rattle.{crate}.proofs.{module}.Invariants.{{{', '.join(names)}}}")

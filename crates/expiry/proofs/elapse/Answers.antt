@@ -17,20 +17,20 @@ loop-i-init c = (omega arith, none_turned _ _ _)
 
 pub expire_slot-k-requires : goal.expire_slot-k-requires
 expire_slot-k-requires c =
-    let some : c.args.period ≡ 0 → ⊥ = c.if1.false in
+    let some : c.args.period ≡ 0 → ⊥ = c.if-period-eq0.false in
     (omega (arith, c.used_below-n.ensures.0), omega arith, c.loop-i.invariant.1.within)
 
 pub loop-i-preserved : goal.loop-i-preserved
 loop-i-preserved c =
     let a = c.args in (
       omega arith,
-      slot_turn (table_of c.raise-time.new.0) a.period c.loop-i.i (words_sized c.raise-time.new.0) (omega (arith, c.used_below-n.ensures.0)) _ _ _ _ _ _ _ c.loop-i.invariant.1 c.sized.ensures
-          (rw (← c.time.ensures) c.expire_slot-k.ensures),
+      slot_turn (table_of c.raise_time.new.t) a.period c.loop-i.i (words_sized c.raise_time.new.t) (omega (arith, c.used_below-n.ensures.0)) _ _ _ _ _ _ _ c.loop-i.invariant.1 c.sized.ensures
+          (rw (← c.time-node_time.ensures) c.expire_slot-k.ensures),
     )
 
 pub returns : goal.returns
 returns c =
     let a = c.args in
     let e : c.loop-i.i ≡ c.used_below-n.result = omega arith in
-    all_elapsed (table_of a.t.now) a.at a.period c.used_below-n.result _ _ (table_of c.raise-time.new.0) _ _ c.raise-time.ensures c.used_below-n.ensures.0 c.used_below-n.ensures.1 (ne_eqb a.period 0 c.if1.false)
+    all_elapsed (table_of a.t.now) a.at a.period c.used_below-n.result _ _ (table_of c.raise_time.new.t) _ _ c.raise_time.ensures c.used_below-n.ensures.0 c.used_below-n.ensures.1 (ne_eqb a.period 0 c.if-period-eq0.false)
     (rw e at c.loop-i.invariant.1)

@@ -5,7 +5,7 @@ use Rattle.expiry.proofs.expire_slot.Goals as goal
 
 pub returns-then-expires : goal.returns-then-expires
 returns-then-expires c =
-    let gone = sym c.expires.ensures ∙ c.if1.true in
+    let gone = sym c.expires.ensures ∙ c.if-expires.true in
     record {
       count = rw gone;
       table = rw gone c.close_slot.ensures;

@@ -8,6 +8,7 @@ use Rattle.table.specs.Word.{is_used}
 use Rattle.table.specs.Lists.{call_at}
 use Rattle.table.specs.Words.{table_of}
 use Rattle.expiry.proofs.Idle.{not_expired, expired_idle}
+use mathlib.Core.Bool.{not}
 use Rattle.expiry.proofs.expires.Goals as goal
 
 pub returns-then-not-is_used-long : goal.returns-then-not-is_used-long
@@ -15,11 +16,11 @@ returns-then-not-is_used-long c =
     let d = call_at (table_of c.args.t.now) c.args.i in
     let long = leb (c.wide.result + 5 * c.wide-2.result) c.wide-3.result in
     let e : long ≡ leb (d.refreshed + 5 * c.args.period) c.args.at = rw (c.wide-3.ensures.0, c.wide-2.ensures.0, c.wide.ensures.0, c.call_head-c.ensures) in
-    not_expired (is_used (table_of c.args.t.now).occupied c.args.i) long false d c.args.at c.args.period c.requires.1 e (ap (λ b. b && long) (sym c.is_used.ensures) ∙ not-true (c.is_used.result && long) c.if-not-is_used-long.true)
+    not_expired (is_used (table_of c.args.t.now).occupied c.args.i) long false d c.args.at c.args.period c.requires.1 e (ap (λ b. b && long) (sym c.is_used.ensures) ∙ not-true (c.is_used.result && long) (ap not c.if-not-is_used-long.true))
 
 pub returns : goal.returns
 returns c =
     let d = call_at (table_of c.args.t.now) c.args.i in
     let long = leb (c.wide.result + 5 * c.wide-2.result) c.wide-3.result in
     let e : long ≡ leb (d.refreshed + 5 * c.args.period) c.args.at = rw (c.wide-3.ensures.0, c.wide-2.ensures.0, c.wide.ensures.0, c.call_head-c.ensures) in
-    expired_idle (is_used (table_of c.args.t.now).occupied c.args.i) long c.is_idle.result d c.args.at c.args.period c.requires.1 e (ap (λ b. b && long) (sym c.is_used.ensures) ∙ not-false (c.is_used.result && long) c.if-not-is_used-long.false) c.is_idle.ensures
+    expired_idle (is_used (table_of c.args.t.now).occupied c.args.i) long c.is_idle.result d c.args.at c.args.period c.requires.1 e (ap (λ b. b && long) (sym c.is_used.ensures) ∙ not-false (c.is_used.result && long) (ap not c.if-not-is_used-long.false)) c.is_idle.ensures

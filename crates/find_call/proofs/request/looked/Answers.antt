@@ -12,6 +12,7 @@ use Rattle.find_call.proofs.Beside.{another_pair, the_pair}
 use Rattle.find_call.proofs.Looked.{look_kept, look_changed}
 use Rattle.find_call.proofs.Padded.{names_whole}
 use Rattle.find_call.proofs.Named.{open_size, open_zeros, name_room}
+use mathlib.Core.Bool.{not}
 use Rattle.find_call.proofs.request.looked.Goals as goal
 
 pub returns-then-not-pair : goal.returns-then-not-pair
@@ -19,7 +20,7 @@ returns-then-not-pair c =
     let a = c.args in
     let d = call_at (table_of a.t.now) a.i in
     let ids = ids_in a.msg.now a.q in
-    look_kept a.look a.i a.used d ids (another_pair ids d a.used (rw c.call_head-c.ensures at c.if-not-pair.true))
+    look_kept a.look a.i a.used d ids (another_pair ids d a.used (rw c.call_head-c.ensures at (ap not c.if-not-pair.true)))
 
 pub returns : goal.returns
 returns c =
@@ -29,7 +30,7 @@ returns c =
     let t = table_of w in
     let d = call_at t a.i in
     let ids = ids_in a.msg.now a.q in
-    let no = rw c.call_head-c.ensures at c.if-not-pair.false in
+    let no = rw c.call_head-c.ensures at (ap not c.if-not-pair.false) in
     let used = sym p.1 ∙ (both _ _ (not-false _ no)).0 in
     let size = name_size a.msg.now a.q p.3 in
     let long = names_whole ids.long d.name d.size (omega (arith, size, p.4)) (name_room w a.i p.0) (open_size t a.i p.0 p.2 used) (open_zeros t a.i p.0 p.2 used) in

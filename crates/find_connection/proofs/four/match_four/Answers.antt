@@ -5,12 +5,14 @@ use Rattle.lists.proofs.Below.{has_none, has_turn, count_none, count_turn}
 use Rattle.table_words.specs.Fours.{four_at_word}
 use Rattle.spec_calls.specs.PathRules.{held_by}
 use Rattle.find_connection.proofs.Match.{match_none, match_all}
+use mathlib.Core.Path.{ap}
+use mathlib.Core.Bool.{not}
 use Rattle.find_connection.proofs.four.match_four.Goals as goal
 
 pub returns-then-not-used-x : goal.returns-then-not-used-x
 returns-then-not-used-x c =
     let z = c.args in
-    match_none (held_by z.x) (four_at_word z.t.now z.f) z.used c.if-not-used-x.true
+    match_none (held_by z.x) (four_at_word z.t.now z.f) z.used (ap not c.if-not-used-x.true)
 
 pub loop-j-init : goal.loop-j-init
 loop-j-init c = (omega arith, omega arith, sym (has_none _ _), sym (count_none _ _))
@@ -25,4 +27,4 @@ pub returns : goal.returns
 returns c =
     let z = c.args in
     let e : c.loop-j.j ≡ 4 = omega arith in
-    match_all (held_by z.x) (four_at_word z.t.now z.f) z.used _ _ _ c.if-not-used-x.false (rw e at c.loop-j.invariant.2) c.is_call-own.ensures (rw e at c.loop-j.invariant.3) (omega arith)
+    match_all (held_by z.x) (four_at_word z.t.now z.f) z.used _ _ _ (ap not c.if-not-used-x.false) (rw e at c.loop-j.invariant.2) c.is_call-own.ensures (rw e at c.loop-j.invariant.3) (omega arith)

@@ -8,6 +8,8 @@ use Rattle.table_words.proofs.Alike.{alike_held}
 use Rattle.spec_calls.specs.PathRules.{held_by}
 use Rattle.find_connection.proofs.Match.{match_none, named_none}
 use Rattle.find_connection.proofs.Looked.{look_changed, look_kept}
+use mathlib.Core.Path.{ap}
+use mathlib.Core.Bool.{not}
 use Rattle.find_connection.proofs.under.looked.Goals as goal
 
 pub returns-then-not-used-x : goal.returns-then-not-used-x
@@ -17,8 +19,8 @@ returns-then-not-used-x c =
     let x = held_by a.x in
     let four = four_at_word a.t.now c.call_four-f.result in
     let same = c.call_four-f.ensures.0 in
-    let none = rw (alike_held four (call_four d) same) at (match_none x four a.used c.if-not-used-x.true) in
-    (look_kept a.look a.i a.used d x none (named_none x d a.used (rw same.sender at c.if-not-used-x.true)), omega arith)
+    let none = rw (alike_held four (call_four d) same) at (match_none x four a.used (ap not c.if-not-used-x.true)) in
+    (look_kept a.look a.i a.used d x none (named_none x d a.used (rw same.sender at (ap not c.if-not-used-x.true))), omega arith)
 
 pub returns : goal.returns
 returns c =
