@@ -15,5 +15,5 @@ pub returns : goal.returns
 unfolding is_behind
 returns c =
     let a = c.args in
-    let e = difference c.wrapping_sub_u32-d.result a.old a.new c.wrapping_sub_u32-d.ok c.fits.old.fits c.fits.new.fits c.wrapping_sub_u32-d.ensures in
+    let e = difference c.wrapping_sub_u32-d.result a.old a.new c.wrapping_sub_u32-d.type_inv c.ranges.old.fits c.ranges.new.fits c.wrapping_sub_u32-d.ensures.value in
     rw (← e) (ap (λ b. b && ltb c.wrapping_sub_u32-d.result 2147483648) (above_zero c.wrapping_sub_u32-d.result))

@@ -37,7 +37,7 @@ returns c =
     let held = alike_held _ (call_four d) c.call_four.ensures.0 in
     let says =
     the_pair ids d a.used no _ _ _
-    (ap₂ (λ (a b : Bool). a && b) (c.is_size.ensures ∙ ap₂ (λ (n m : ℕ). eqb n m) (sym size) (ap (λ h. c.size) c.call_head-c.ensures)) (c.is_named.ensures ∙ ap (λ (n : List ℕ). same_bytes n d.name) p.5) ∙ long)
+    (ap₂ (λ (a b : Bool). a && b) (c.is_size.ensures ∙ ap₂ (λ (n m : ℕ). eqb n m) (sym size) (ap (λ h. h.size) c.call_head-c.ensures)) (c.is_named.ensures ∙ ap (λ (n : List ℕ). same_bytes n d.name) p.5) ∙ long)
     (c.is_call-short.ensures ∙ rw c.call_head-c.ensures)
     (c.has_taken.ensures ∙ rw held) in
     look_changed a.look a.i a.used d ids _ _ _ _ says c.select.ensures
