@@ -2,7 +2,7 @@
 -- Assumes nothing.
 use Prim.Native.Nat.{ℕ, ◌≤◌, ◌<◌}
 use native.Mathlib.Omega.{arith}
-use mathlib.Core.Path.{◌≡◌, refl, sym, ap, ◌∙◌}
+use mathlib.Core.Path.{◌≡◌, refl, sym, ap, subst, ◌∙◌}
 use mathlib.Core.List.{List, [], ◌∷◌}
 use mathlib.Core.Bool.{Bool, true, false, cond, not, ◌&&◌, true≢false}
 use lib.Dec.{eqb}
@@ -23,7 +23,7 @@ use Rattle.table.specs.Word.{is_used}
 use Rattle.table.specs.Lists.{roster, Ids, Entry, call_at, ids_of, entry_of, open_at, entries}
 use Rattle.table.specs.Rules.{same_bytes, same_pair, same_short, same_long, same_request, rules_hold}
 use Rattle.table.proofs.SameBytes.{same_bytes_lem}
-use Rattle.spec_changes.specs.Calls.{entry_for, is_call, slot_of}
+use Rattle.spec_changes.specs.Calls.{New, entry_for, is_call, slot_of}
 use Rattle.spec_changes.specs.Expiry.{elapsed}
 use Rattle.spec_changes.proofs.Expired.{elapsed_own}
 use Rattle.spec_changes.proofs.Alike.{self, short_self, long_self}
@@ -205,5 +205,5 @@ made_entered t l g x q e n h = ((new_for (entries u) s q).ids, entry, replies_wi
         by : (a : Answer) (m k : List Entry) → is 20 a ≡ true → ((p : Entry → Bool) → count_if p m ≡ count_if p k)
             → has (is_made_with q (new_for m s q).ids) (feed (total_of t) (record { message = s; room = 0; time = 0; period = 0; answer = a; closings = [] }) k) ≡ true
         by a m k h c =
-            rw (h, i.opened (total_of t) k, new_same m k c s q)
-            (true_has (is_made_with q (new_for k s q).ids) (entry_for (lowest_slot k (total_of t)) (new_for k s q) ∷ k) (omega (arith, ap bit (entered (lowest_slot k (total_of t)) k s q n))))
+            subst (λ (w : New). has (is_made_with q w.ids) (feed (total_of t) (record { message = s; room = 0; time = 0; period = 0; answer = a; closings = [] }) k) ≡ true) (sym (new_same m k c s q))
+            (rw (h, i.opened (total_of t) k) (true_has (is_made_with q (new_for k s q).ids) (entry_for (lowest_slot k (total_of t)) (new_for k s q) ∷ k) (omega (arith, ap bit (entered (lowest_slot k (total_of t)) k s q n)))))
