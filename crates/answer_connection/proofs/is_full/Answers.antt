@@ -5,9 +5,7 @@ use lib.Dec.{leb}
 use mathlib.Core.Bool.{Bool, true, false}
 use mathlib.Core.Path.{◌≡◌, refl, sym}
 use native.Mathlib.Omega.{arith}
-use borrow.Author.Rules.{rules}
-use Rattle.answer_connection.proofs.is_full.Statement.{statement}
-use Rattle.answer_connection.proofs.is_full.Tie as tie
+use Rattle.answer_connection.proofs.is_full.Goals as goal
 
 rest : (u l : ℕ) → u < 4 → leb (4 - u) l ≡ leb 4 (u + l)
 rest u l h = by (leb 4 (u + l)) refl
@@ -16,14 +14,8 @@ rest u l h = by (leb 4 (u + l)) refl
     by true e = le-leb (4 - u) l (omega (arith, leb-true 4 (u + l) e))
     by false e = lt-leb (4 - u) l (omega (arith, leb-false 4 (u + l) e))
 
-returns : tie.Need-returns
-returns c = sym (le-leb 4 (c.before.args.under + c.before.args.standalone) (omega arith))
+pub returns-then-under-ge4 : goal.returns-then-under-ge4
+returns-then-under-ge4 c = sym (le-leb 4 (c.args.under + c.args.standalone) (omega arith))
 
-sub_result : tie.Need-overflow-sub-result
-sub_result c = search rules
-
-returns_2 : tie.Need-returns-2
-returns_2 c = rest c.before.args.under c.before.args.standalone (omega arith)
-
-pub is_full_spec : {M : Type 1} → statement M
-is_full_spec = tie.close (tie.spec returns sub_result returns_2)
+pub returns : goal.returns
+returns c = rest c.args.under c.args.standalone (omega arith)
