@@ -1,4 +1,5 @@
--- `close_call`: each return has the tests of its answer; the slot is the one that the look_up found.
+-- `close_call`: each return has the tests of its answer; the slot is the one that the look-up found.
+use borrow.Author.Tests.{not-true, not-false}
 use Prim.Native.Nat.{◌+◌}
 use native.Mathlib.Omega.{arith}
 use mathlib.Core.Path.{sym, ap, ◌∙◌}
@@ -23,7 +24,7 @@ returns-then-not-k c =
     let n = c.notified.ensures in
     let f = found t (ids_in c.args.msg.now q) _ c.look_up-k.ensures in
     let some = c.requires.2.call_some in
-    ruled_by t _ _ (Close q) UnknownCall _ _ _ _ (close_unknown _ _ _ (sym f.known ∙ c.if-not-k.true)) n.answer n.length n.table n.reply
+    ruled_by t _ _ (Close q) UnknownCall _ _ _ _ (close_unknown _ _ _ (sym f.known ∙ not-true _ c.if-not-k.true)) n.answer n.length n.table n.reply
 
 pub returns-then-k : goal.returns-then-k
 returns-then-k c =
@@ -33,11 +34,11 @@ returns-then-k c =
     let f = found t (ids_in c.args.msg.now q) _ c.look_up-k.ensures in
     let some = c.requires.2.call_some in
     ruled_by t _ _ (Close q) ConnectionsStillExist _ _ _ _
-    (close_busy _ _ _ (sym f.known ∙ c.if-not-k.false) (sym (f.busy (λ e. omega (arith, e, some))) ∙ c.if-k.true))
+    (close_busy _ _ _ (sym f.known ∙ not-false _ c.if-not-k.false) (sym (f.busy (λ e. omega (arith, e, some))) ∙ c.if-k.true))
     n.answer n.length n.table n.reply
 
 pub close_slot-requires : goal.close_slot-requires
-close_slot-requires c = slot_inside _ _ _ c.look_up-k.ensures (c.if-not-k.false)
+close_slot-requires c = slot_inside _ _ _ c.look_up-k.ensures (not-false _ c.if-not-k.false)
 
 pub returns : goal.returns
 returns c =
@@ -48,5 +49,5 @@ returns c =
     let sent = sent_from (λ w. reply_bytes w c.args.msg.now q (call_bit + delete_bit) CallClosed) c.close_slot.ensures c.notified-2.ensures in
     let n = with_bytes (freed_bytes t _ c.args.msg.now q (call_bit + delete_bit) CallClosed) sent in
     ruled_by t _ _ (Close q) CallClosed _ _ _ _
-    (close_idle _ _ _ (sym f.known ∙ c.if-not-k.false) (sym (f.busy (λ e. omega (arith, e, some))) ∙ c.if-k.false))
+    (close_idle _ _ _ (sym f.known ∙ not-false _ c.if-not-k.false) (sym (f.busy (λ e. omega (arith, e, some))) ∙ c.if-k.false))
     n.answer n.length (n.table ∙ ap identifier_taken (closed_is t _ _ f.slot)) n.reply

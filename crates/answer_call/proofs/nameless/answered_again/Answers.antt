@@ -25,5 +25,5 @@ returns c =
     let t = table_of c.args.t.now in
     let id = c.call_head-c.result.id.0 in
     let long = take c.call_head-c.result.size c.slot_name-name.result in
-    let sent = sent_from (λ v. made_bytes v c.args.msg.now z.args.q CallAlreadyOpen id long) c.refresh_slot.ensures c.notified_made.ensures in
+    let sent = sent_from (λ v. made_bytes v c.args.msg.now c.args.q CallAlreadyOpen id long) c.refresh_slot.ensures c.notified_made.ensures in
     rw (c.slot_name-name.ensures, c.call_head-c.ensures) at (with_bytes (refreshed_made t c.args.slot c.args.msg.now c.args.q CallAlreadyOpen id long) sent)
