@@ -1,0 +1,81 @@
+-- `placing::stands` meets its contract: the tests that the law asks for, in its order.
+use mathlib.Core.Path.{◌≡◌, sym, ap, ◌∙◌}
+use Rattle.lists.proofs.Tests.{both}
+use Rattle.table.specs.Words.{table_of}
+use Rattle.table.proofs.Cells.{used_long}
+use Rattle.table.specs.Rules.{valid_ids, call_free_clear, rules_hold}
+use Rattle.spec_changes.proofs.Words.{words_calls}
+use Rattle.spec_changes.proofs.Valid.{ids_named}
+use Rattle.spec_calls.specs.CallRules.{ids_in}
+use Rattle.spec_checkpoint.specs.Layout.{call_record}
+use Rattle.spec_checkpoint.specs.Salvage.{placed}
+use Rattle.spec_checkpoint.proofs.Part.{record_bare}
+use Rattle.find_call.proofs.Looks.{found}
+use Rattle.checkpoint_salvage.proofs.Stands.{stands_beside, short_stands, stands_is}
+use Rattle.checkpoint_salvage.proofs.placing.stands.Goals as goal
+
+-- TODO tie
+-- the law at the place where the function begins
+law : (z : tie.Start) → stands_beside (table_of z.args.t.now) (call_record z.args.s.now z.args.i)
+    ≡ rules_hold (placed (table_of z.args.t.now) (call_record z.args.s.now z.args.i))
+law z =
+    let w = z.args.t.now in
+    let s = z.args.s.now in
+    stands_is (table_of w) (call_record s z.args.i) (words_calls w) (used_long w) z.requires.2 z.requires.3 (record_bare s z.args.i) z.requires.1
+
+pub returns-then-not-tidy : goal.returns-then-not-tidy
+returns-then-not-tidy c = rw (sym c.tidy.ensures ∙ c.if-not-tidy.true) at (law c.before.before.before)
+
+pub record_request-q-requires : goal.record_request-q-requires
+record_request-q-requires c =
+    let r = call_record c.args.s.now c.args.i in
+    (c.requires.0, (ids_named r.call (both (valid_ids r.call) (call_free_clear r.call) (sym c.tidy.ensures ∙ c.if-not-tidy.false)).0).most)
+
+pub returns-then-not-m : goal.returns-then-not-m
+returns-then-not-m c =
+    let same = ap (λ x. x.sender) c.record_request-q.ensures.0 in
+    rw (sym c.tidy.ensures ∙ c.if-not-tidy.false, rw same at (sym c.listing_of-m.ensures.known ∙ c.if-not-m.true)) at (law d.before.before)
+
+pub returns-then-short_in_use : goal.returns-then-short_in_use
+returns-then-short_in_use c =
+    let s = c.args.s.now in
+    let r = call_record s c.args.i in
+    let e = c.record_request-q.ensures.0 in
+    let short = rw e at (sym (c.short_in_use.ensures (ids_in s c.record_request-q.result).long) ∙ c.if-short_in_use.true) in
+    sym (short_stands (table_of c.args.t.now) r short) ∙ law z
+
+pub returns-then-request_in_use : goal.returns-then-request_in_use
+returns-then-request_in_use c =
+    let same = ap (λ x. x.sender) c.record_request-q.ensures.0 in
+    rw (
+      sym c.tidy.ensures ∙ c.if-not-tidy.false,
+      rw same at (sym c.listing_of-m.ensures.known ∙ c.if-not-m.false),
+      sym c.request_in_use.ensures ∙ c.if-request_in_use.true,
+    ) at (law d.before.before)
+
+pub returns-then-share_used_up : goal.returns-then-share_used_up
+returns-then-share_used_up c =
+    let same = ap (λ x. x.sender) c.record_request-q.ensures.0 in
+    rw (
+      sym c.tidy.ensures ∙ c.if-not-tidy.false,
+      rw same at (sym c.listing_of-m.ensures.known ∙ c.if-not-m.false),
+      sym c.request_in_use.ensures ∙ c.if-request_in_use.false,
+      rw same at (sym c.share_used_up.ensures ∙ c.if-share_used_up.true),
+    ) at (law d.before.before)
+
+pub look_up-look-requires : goal.look_up-look-requires
+look_up-look-requires c =
+    (c.requires.1, c.record_request-q.ensures.1, c.record_request-q.ensures.2)
+
+pub returns : goal.returns
+returns c =
+    let e = c.record_request-q.ensures.0 in
+    let same = ap (λ x. x.sender) e in
+    let f = found (table_of c.args.t.now) _ _ c.look_up-look.ensures in
+    rw (f.long, f.short, e)
+    (rw (
+      sym c.tidy.ensures ∙ c.if-not-tidy.false,
+      rw same at (sym c.listing_of-m.ensures.known ∙ c.if-not-m.false),
+      sym c.request_in_use.ensures ∙ c.if-request_in_use.false,
+      rw same at (sym c.share_used_up.ensures ∙ c.if-share_used_up.false),
+    ) at (law z))
