@@ -122,7 +122,7 @@ def rewritten(body, place, fn, said):
     def once(text):
         def one(m):
             root, rest = m.group(1), m.group(2)[1:] if m.group(2) else ""
-            if root != "c" and re.search(r"λ (?:\S+ )*" + re.escape(root) + r"\.[^()]*(?:\([^()]*\)[^()]*)*$", text[: m.start()]):
+            if root != "c" and re.search(r"λ (?:[^\s.()]+ )*" + re.escape(root) + r"\.[^()]*(?:\([^()]*\)[^()]*)*$", text[: m.start()]):
                 return m.group(0)
             if root == "c":
                 kind, to = path(place, rest)

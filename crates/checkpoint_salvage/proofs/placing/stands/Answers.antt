@@ -1,7 +1,13 @@
 -- `placing::stands` meets its contract: the tests that the law asks for, in its order.
+use Prim.Native.Nat.{ℕ, ◌<◌}
 use mathlib.Core.Path.{◌≡◌, sym, ap, ◌∙◌}
+use mathlib.Core.List.{List}
+use mathlib.Core.Bool.{true, false}
+use borrow.Author.Tests.{not-true, not-false}
 use Rattle.lists.proofs.Tests.{both}
 use Rattle.table.specs.Words.{table_of}
+use Rattle.table.specs.Total.{total_of}
+use Rattle.table.specs.Word.{is_used}
 use Rattle.table.proofs.Cells.{used_long}
 use Rattle.table.specs.Rules.{valid_ids, call_free_clear, rules_hold}
 use Rattle.spec_changes.proofs.Words.{words_calls}
@@ -14,17 +20,13 @@ use Rattle.find_call.proofs.Looks.{found}
 use Rattle.checkpoint_salvage.proofs.Stands.{stands_beside, short_stands, stands_is}
 use Rattle.checkpoint_salvage.proofs.placing.stands.Goals as goal
 
--- TODO tie
 -- the law at the place where the function begins
-law : (z : tie.Start) → stands_beside (table_of z.args.t.now) (call_record z.args.s.now z.args.i)
-    ≡ rules_hold (placed (table_of z.args.t.now) (call_record z.args.s.now z.args.i))
-law z =
-    let w = z.args.t.now in
-    let s = z.args.s.now in
-    stands_is (table_of w) (call_record s z.args.i) (words_calls w) (used_long w) z.requires.2 z.requires.3 (record_bare s z.args.i) z.requires.1
+law : (w s : List ℕ) (i : ℕ) → rules_hold (table_of w) ≡ true → (call_record s i).slot < total_of (table_of w) → is_used (table_of w).occupied (call_record s i).slot ≡ false
+    → stands_beside (table_of w) (call_record s i) ≡ rules_hold (placed (table_of w) (call_record s i))
+law w s i rules inside free = stands_is (table_of w) (call_record s i) (words_calls w) (used_long w) inside free (record_bare s i) rules
 
 pub returns-then-not-tidy : goal.returns-then-not-tidy
-returns-then-not-tidy c = rw (sym c.tidy.ensures ∙ c.if-not-tidy.true) at (law c.before.before.before)
+returns-then-not-tidy c = rw (sym c.tidy.ensures ∙ c.if-not-tidy.true) at (law c.args.t.now c.args.s.now c.args.i c.requires.1 c.requires.2 c.requires.3)
 
 pub record_request-q-requires : goal.record_request-q-requires
 record_request-q-requires c =
@@ -34,7 +36,7 @@ record_request-q-requires c =
 pub returns-then-not-m : goal.returns-then-not-m
 returns-then-not-m c =
     let same = ap (λ x. x.sender) c.record_request-q.ensures.0 in
-    rw (sym c.tidy.ensures ∙ c.if-not-tidy.false, rw same at (sym c.listing_of-m.ensures.known ∙ c.if-not-m.true)) at (law d.before.before)
+    rw (sym c.tidy.ensures ∙ c.if-not-tidy.false, rw same at (sym c.listing_of-m.ensures.known ∙ not-true _ c.if-not-m.true)) at (law c.args.t.now c.args.s.now c.args.i c.requires.1 c.requires.2 c.requires.3)
 
 pub returns-then-short_in_use : goal.returns-then-short_in_use
 returns-then-short_in_use c =
@@ -42,26 +44,26 @@ returns-then-short_in_use c =
     let r = call_record s c.args.i in
     let e = c.record_request-q.ensures.0 in
     let short = rw e at (sym (c.short_in_use.ensures (ids_in s c.record_request-q.result).long) ∙ c.if-short_in_use.true) in
-    sym (short_stands (table_of c.args.t.now) r short) ∙ law z
+    sym (short_stands (table_of c.args.t.now) r short) ∙ law c.args.t.now c.args.s.now c.args.i c.requires.1 c.requires.2 c.requires.3
 
 pub returns-then-request_in_use : goal.returns-then-request_in_use
 returns-then-request_in_use c =
     let same = ap (λ x. x.sender) c.record_request-q.ensures.0 in
     rw (
       sym c.tidy.ensures ∙ c.if-not-tidy.false,
-      rw same at (sym c.listing_of-m.ensures.known ∙ c.if-not-m.false),
+      rw same at (sym c.listing_of-m.ensures.known ∙ not-false _ c.if-not-m.false),
       sym c.request_in_use.ensures ∙ c.if-request_in_use.true,
-    ) at (law d.before.before)
+    ) at (law c.args.t.now c.args.s.now c.args.i c.requires.1 c.requires.2 c.requires.3)
 
 pub returns-then-share_used_up : goal.returns-then-share_used_up
 returns-then-share_used_up c =
     let same = ap (λ x. x.sender) c.record_request-q.ensures.0 in
     rw (
       sym c.tidy.ensures ∙ c.if-not-tidy.false,
-      rw same at (sym c.listing_of-m.ensures.known ∙ c.if-not-m.false),
+      rw same at (sym c.listing_of-m.ensures.known ∙ not-false _ c.if-not-m.false),
       sym c.request_in_use.ensures ∙ c.if-request_in_use.false,
       rw same at (sym c.share_used_up.ensures ∙ c.if-share_used_up.true),
-    ) at (law d.before.before)
+    ) at (law c.args.t.now c.args.s.now c.args.i c.requires.1 c.requires.2 c.requires.3)
 
 pub look_up-look-requires : goal.look_up-look-requires
 look_up-look-requires c =
@@ -75,7 +77,7 @@ returns c =
     rw (f.long, f.short, e)
     (rw (
       sym c.tidy.ensures ∙ c.if-not-tidy.false,
-      rw same at (sym c.listing_of-m.ensures.known ∙ c.if-not-m.false),
+      rw same at (sym c.listing_of-m.ensures.known ∙ not-false _ c.if-not-m.false),
       sym c.request_in_use.ensures ∙ c.if-request_in_use.false,
       rw same at (sym c.share_used_up.ensures ∙ c.if-share_used_up.false),
-    ) at (law z))
+    ) at (law c.args.t.now c.args.s.now c.args.i c.requires.1 c.requires.2 c.requires.3))

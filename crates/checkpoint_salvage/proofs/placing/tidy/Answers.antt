@@ -32,4 +32,4 @@ returns c =
     let a = c.args in
     let sized = both _ _ (c.if-not-sized.false) in
     rw (c.get16.ensures, c.zeros-clear.ensures)
-    (tidy_is a.s.now a.i _ (ap (λ (n : ℕ). n % 128) c.to_usize-size.ensures.0) _ c.request_tidy.ensures (ltb-true _ _ sized.0) (leb-true _ _ sized.1) (omega (arith, c.get16.ensures, g.get16.type_inv)))
+    (tidy_is a.s.now a.i _ (ap (λ (n : ℕ). n % 128) c.to_usize-size.ensures.0) _ c.request_tidy.ensures (ltb-true _ _ sized.0) (leb-true _ _ sized.1) (omega (arith, c.get16.ensures, c.get16.type_inv)))
