@@ -144,7 +144,7 @@ def rewritten(body, place, fn, said):
             return ""
         return m.group(0)
 
-    text = re.sub(r"let ([\w'₀-]+) = (c|[\w']+)((?:\.before)+) in\s*", lambda m: let(m) if m.group(2) == "c" or m.group(2) in alias else m.group(0), body)
+    text = re.sub(r"let ([\w'₀-]+) = (c|[\w']+)((?:\.before)*) in\s*", lambda m: let(m) if m.group(2) == "c" or m.group(2) in alias else m.group(0), body)
     text = re.sub(r"\.(type|well)-(inv|formed)\b", r".\1_\2", once(text))
     # the tests of `!x` say what `x` is
     test = r"(c\.if-not-[\w'-]+\.(?:true|false))"
@@ -177,7 +177,7 @@ def imports(uses, text):
 
 def turn(path, module, told, crate):
     said = []
-    text = open(path, encoding="utf-8").read()
+    text = re.sub(r"^((?:pub )?[^\s:]+) :\n +(tie\.)", r"\1 : \2", open(path, encoding="utf-8").read(), flags=re.M)
     fn = Function(told)
     head, uses, rest = [], [], []
     for line in text.split("\n"):

@@ -1,0 +1,16 @@
+-- `choosing::long_chains` meets its contract: after `k` turns those of the last `k` records that are sound stand in their
+-- chains.
+use Prim.Native.Nat.{◌≤◌, ◌-◌}
+use mathlib.Core.Path.{◌≡◌}
+use lib.ListN.{length}
+use Rattle.lists.specs.Chain.{InChains}
+use Rattle.checkpoint_choice.specs.LongChain.{chain_at}
+use Rattle.checkpoint_choice.proofs.LongWalk.{sound_at}
+use Rattle.checkpoint_choice.proofs.choosing.long_chains.Given as goal
+
+abbrev pub invariant-loop-k : goal.invariant-loop-k
+invariant-loop-k l =
+    (l.k ≤ l.calls) × (length l.heads ≡ 1024) × (length l.links ≡ 4096) × InChains (sound_at l.sound l.calls) (chain_at l.f l.s l.calls) l.heads l.links l.k
+
+abbrev pub decreases-loop-k : goal.decreases-loop-k
+decreases-loop-k l = l.calls - l.k

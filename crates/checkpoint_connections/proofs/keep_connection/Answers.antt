@@ -1,0 +1,11 @@
+-- `keep_connection` meets its contract.
+use mathlib.Core.Path.{sym, ◌∙◌}
+use Rattle.checkpoint_connections.proofs.keep_connection.Goals as goal
+
+pub keep_standalone-requires : goal.keep_standalone-requires
+keep_standalone-requires c =
+    (c.requires.0, c.requires.1, c.requires.2, c.requires.3, c.requires.4, sym c.is_no_call.ensures ∙ c.if-is_no_call.true)
+
+pub keep_under-requires : goal.keep_under-requires
+keep_under-requires c =
+    (c.requires.0, c.requires.1, c.requires.2, c.requires.3, c.requires.4, sym c.is_no_call.ensures ∙ c.if-is_no_call.false)
