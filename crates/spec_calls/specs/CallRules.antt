@@ -11,7 +11,7 @@ use Rattle.spec_changes.specs.Connections.{is_under}
 use Rattle.answers.specs.declared.answer.Answer.{Answer}
 use Rattle.answers.specs.declared.answer.Answer.TheVariants.{CallOpened, CallAlreadyOpen, CallClosed, CallIdContention, DuplicateCall, ConnectionsStillExist, UnknownCall, NoShare}
 
--- the four of a request: the long Call ID is the session name, exactly name_length_lem bytes
+-- the four of a request: the long Call ID is the session name, exactly name-length bytes
 abbrev pub ids_in : List ℕ → CallRequest → Ids
 ids_in message q = record { endpoint = q.endpoint; sender = q.sender; short = q.call.0; long = part_of message q.name }
 
