@@ -13,7 +13,6 @@ use Rattle.table.specs.Total.{slots}
 use Rattle.table.specs.Word.{is_used}
 use Rattle.table.specs.Lists.{call_at, entries}
 use Rattle.table.specs.Rules.{rules_hold}
-use Rattle.spec_changes.specs.Calls.{New}
 use Rattle.spec_changes.proofs.Told.{rules_kept}
 use Rattle.spec_changes.proofs.Valid.{Named, ids_named}
 use Rattle.answers.specs.declared.answer.Answer.TheVariants.{CallOpened}

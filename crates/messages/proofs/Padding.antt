@@ -13,7 +13,7 @@ use Rattle.numbers.specs.Claims.{CutOff}
 use Rattle.numbers.proofs.Padding.{unpadded_says, unpadded_only}
 use Rattle.objects.specs.Forms.{name_length}
 use Rattle.messages.specs.Fields.{long_size}
-use Rattle.messages.specs.Claims.{PaddedAlike, long_at, SameLongPadded}
+use Rattle.messages.specs.Claims.{PaddedAlike, SameLongPadded}
 
 module _ (s : List ℕ) (a : ℕ) (r : List ℕ) (b : ℕ) (p : PaddedAlike s a r b) where
   cut : CutOff s (a + 8) (name_length s a) (long_size s a)

@@ -1,10 +1,10 @@
 -- Where a refused message's fault is: at the first faulty object, or at no object (02, A3).
 -- Assumes nothing.
 use Prim.Native.Nat.{ℕ}
-use mathlib.Core.Path.{◌≡◌, refl, sym, ap, ◌∙◌}
+use mathlib.Core.Path.{◌≡◌, refl}
 use mathlib.Core.Logic.{◌⊎◌, inl, inr}
 use mathlib.Core.List.{List}
-use mathlib.Core.Bool.{Bool, true, false}
+use mathlib.Core.Bool.{true, false}
 use lib.Dec.{leb}
 use Rattle.numbers.specs.Search.{is_in}
 use Rattle.objects.specs.declared.fault.Fault.{Fault}

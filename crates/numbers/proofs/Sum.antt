@@ -3,7 +3,6 @@
 -- Assumes nothing.
 use Rattle.std.proofs.Common.{◌≡◌, ℕ, zero, suc, ◌+◌, ◌-◌, ◌*◌, ◌/◌, ◌%◌, ◌<◌, ◌≤◌, Bool, true, false, cond, eqb, List, [], ◌∷◌, length, get_or, set, refl, ap, ◌∙◌, arith, length-set, get_or-set_other, get_or-set_same, eqb-true}
 use lib.Seq.{sets, length-sets}
-use borrow.Author.Tests.{eqb-false}
 use Rattle.numbers.specs.BigEndian.{Bytes, be16_at, bytes16}
 use Rattle.numbers.specs.Checksum.{first_words, all_round, words_sum}
 use Rattle.numbers.specs.Claims.{NoCarryLeft}

@@ -21,7 +21,7 @@ use Rattle.objects.specs.Classes.{refused_class}
 use Rattle.objects.specs.Forms.{misformed}
 use Rattle.objects.specs.Item.{object_at, bad_length, item_at}
 use Rattle.objects.specs.Walk.{on_item, walk_from, walk_of}
-use Rattle.objects.specs.FirstFault.{Way, FirstFault, StoppedAtFirst}
+use Rattle.objects.specs.FirstFault.{Way, StoppedAtFirst}
 
 abbrev stops : Walked → Bool
 stops (Finished v) = false

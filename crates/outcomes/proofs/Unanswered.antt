@@ -3,7 +3,6 @@
 use Prim.Native.Nat.{ℕ}
 use mathlib.Core.Path.{◌≡◌, refl, ap, ◌∙◌}
 use mathlib.Core.List.{List, []}
-use lib.ListN.{length}
 use Rattle.numbers.specs.Buffer.{at_front}
 use Rattle.messages.specs.declared.message.Message.{Message}
 use Rattle.table.specs.Table.{Table}

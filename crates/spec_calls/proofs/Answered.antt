@@ -23,7 +23,7 @@ use Rattle.spec_changes.proofs.Valid.{ids_named}
 use Rattle.answers.specs.declared.answer.Answer.{Answer}
 use Rattle.answers.specs.Answers.{is}
 use Rattle.spec_calls.specs.CallRules.{nameless, is_named_by, is_retry, share_used_up, open_answer}
-use Rattle.spec_calls.specs.Made.{made_for, new_for}
+use Rattle.spec_calls.specs.Made.{made_for}
 use Rattle.spec_calls.specs.Handling.{answered_ids}
 use Rattle.spec_calls.proofs.MadeName.{name_length_lem, name_bytes}
 use Rattle.spec_calls.proofs.MadeFree.{made_free}

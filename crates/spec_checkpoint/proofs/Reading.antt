@@ -16,7 +16,7 @@ use Rattle.table.specs.declared.answer.RosterAnswer.TheVariants.{Accepted, Short
 use Rattle.table.specs.Total.{total_for, total_of}
 use Rattle.table.specs.Word.{bits, is_used, FourWords}
 use Rattle.table.specs.Zeros.{empty_table}
-use Rattle.table.specs.Lists.{roster, entries}
+use Rattle.table.specs.Lists.{entries}
 use Rattle.table.specs.Rules.{rules_hold}
 use Rattle.table.specs.Roster.{total_in, roster_number, roster_answer, fresh_table, table_for, form_in}
 use Rattle.table.proofs.Slots.{none_used}

@@ -7,18 +7,17 @@ use mathlib.Core.List.{List, ◌∷◌}
 use mathlib.Core.Bool.{Bool, true, false, cond, not, ◌&&◌, and-false}
 use lib.Dec.{eqb}
 use borrow.Author.Tests.{eqb-true}
-use Rattle.lists.specs.Count.{bit, count_if, has, without}
+use Rattle.lists.specs.Count.{bit, count_if, without}
 use Rattle.lists.proofs.Tests.{both}
 use Rattle.lists.proofs.Count.{has_true, has_false, true_has, false_has, has_nothing, count_ext, count_le, count_without}
-use Rattle.table.specs.Table.{Table}
-use Rattle.table.specs.Lists.{Entry, entries, Lsp, Held, held}
+use Rattle.table.specs.Lists.{Lsp, Held, held}
 use Rattle.table.specs.Rules.{same_lsp, is_lsp, same_connection}
 use Rattle.spec_changes.proofs.Alike.{lsp_equal}
 use Rattle.spec_changes.proofs.CallMissing.{no_call_missing}
 use Rattle.answers.specs.declared.answer.Answer.{Answer}
 use Rattle.answers.specs.Answers.{answer_number, is}
-use Rattle.spec_promises.specs.Connections.{held_of, feed_held, same_held, is_held, is_torn_down, is_set_up}
-use Rattle.spec_promises.specs.Promises.{Input, fed, table_then, Agrees}
+use Rattle.spec_promises.specs.Connections.{held_of, same_held}
+use Rattle.spec_promises.specs.Promises.{fed, table_then}
 use Rattle.spec_promises.specs.Claims.{ConnectionStays, ConnectionGoes, ConnectionComes, ConnectionHasCall}
 use Rattle.spec_promises.proofs.Step.{step_held}
 

@@ -24,7 +24,6 @@ use Rattle.table.specs.Rules.{rules_hold}
 use Rattle.spec_changes.specs.Expiry.{Closing, raised, closings_of, elapsed}
 use Rattle.answers.specs.declared.answer.Answer.{Answer}
 use Rattle.answers.specs.declared.answer.Answer.TheVariants.{TableBroken, BufferTooSmall, Malformed, SenderNotListed, Late}
-use Rattle.answers.specs.Answers.{is}
 use Rattle.spec_changes.specs.Last.{last_of}
 use Rattle.spec_calls.specs.Late.{is_late_message}
 use Rattle.spec_calls.specs.Form.{Form, faulty, sound, sender_of, listed_or11, sound_or16, read_form, form_of}

@@ -14,7 +14,7 @@ use Rattle.messages.specs.declared.message.Message.TheVariants.{Open, Close, Add
 use Rattle.table.specs.Table.{Table}
 use Rattle.table.specs.Total.{total_of}
 use Rattle.table.specs.Lists.{roster, Entry, entries}
-use Rattle.spec_changes.specs.Calls.{opened, slot_of, closed, refreshed_at, identifier_taken}
+use Rattle.spec_changes.specs.Calls.{slot_of, closed, refreshed_at, identifier_taken}
 use Rattle.spec_changes.specs.Connections.{added, removed}
 use Rattle.spec_changes.specs.Expiry.{elapsed}
 use Rattle.spec_changes.specs.Last.{last_of, last_kept}

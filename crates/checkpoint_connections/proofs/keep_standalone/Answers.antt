@@ -17,7 +17,6 @@ use Rattle.find_connection.specs.declared.standalone.StandaloneLook.{StandaloneL
 use Rattle.find_connection.specs.Looks.{standalone_look_of}
 use Rattle.checkpoint_connections.proofs.Fits.{unfit_unlisted, unfit_held, unfit_alone, fits_alone, held_most}
 use Rattle.checkpoint_connections.proofs.InCells.{goes_on}
-use borrow.Author.Rules.{rules}
 use Rattle.checkpoint_connections.proofs.keep_standalone.Goals as goal
 
 -- how many of its four the look counts

@@ -1,5 +1,5 @@
 -- `marked_below` meets its contract: no slot of the words passed over is marked, and the first word with a mark has the last.
-use Prim.Native.Nat.{◌-◌, ◌*◌, ◌≤◌}
+use Prim.Native.Nat.{◌*◌, ◌≤◌}
 use Rattle.table.specs.Words.{table_of}
 use Rattle.table.proofs.Slots.{ClearFrom}
 use Rattle.occupancy.proofs.marked_below.Given as goal

@@ -1,4 +1,3 @@
-use Prim.Native.Nat.{◌-◌}
 use mathlib.Core.Path.{◌≡◌, ◌∙◌}
 use Rattle.rosters.proofs.Records.{taking_none, taking_turn, taking_all}
 use native.Mathlib.Omega.{arith}

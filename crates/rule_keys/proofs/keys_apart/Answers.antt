@@ -1,7 +1,5 @@
-use Prim.Native.Nat.{◌-◌}
 use native.Mathlib.Omega.{arith}
 use mathlib.Core.Path.{◌≡◌, sym, ap, ◌∙◌}
-use mathlib.Core.Logic.{⊎_elim}
 use mathlib.Core.List.{[], append-nil}
 use lib.Dec.{ltb}
 use lib.ListN.{take}
@@ -45,13 +43,13 @@ loop-k-preserved c =
     let m = take c.loop-k.noted.count c.loop-k.keys in
     let turn = pass_turn (λ j. list_if (ltb j listed) (held_keys (held_in (customer_four (customer_at t j))))) k (below (call_keys_at t) slots) m in
     elim c.if-k-listed.branch [
-      then-k-listed y ↦
-        let e = y.note_four-noted.ensures in
-        let one = customer_listed t listed k (four_at_word w y.customer_four.result) m _ y.if-k-listed.true y.customer_four.ensures.0 e.1 in
-        (omega arith, rw (y.heads-is, y.links-is, y.keys-is, y.noted-is) e.0, rw (y.keys-is, y.noted-is) (turn _ i.2 one), omega (arith, ap (λ (a : Noted). a.count) y.noted-is, e.2))
+      | then-k-listed y ↦
+          let e = y.note_four-noted.ensures in
+          let one = customer_listed t listed k (four_at_word w y.customer_four.result) m _ y.if-k-listed.true y.customer_four.ensures.0 e.1 in
+          (omega arith, rw (y.heads-is, y.links-is, y.keys-is, y.noted-is) e.0, rw (y.keys-is, y.noted-is) (turn _ i.2 one), omega (arith, ap (λ (a : Noted). a.count) y.noted-is, e.2))
       | else-k-listed y ↦
-        let none = customer_unlisted t listed k m y.if-k-listed.false in
-        (omega arith, rw (y.heads-is, y.links-is, y.keys-is, y.noted-is) i.1, rw (y.keys-is, y.noted-is) (turn _ i.2 none), omega (arith, ap (λ (a : Noted). a.count) y.noted-is, i.3))
+          let none = customer_unlisted t listed k m y.if-k-listed.false in
+          (omega arith, rw (y.heads-is, y.links-is, y.keys-is, y.noted-is) i.1, rw (y.keys-is, y.noted-is) (turn _ i.2 none), omega (arith, ap (λ (a : Noted). a.count) y.noted-is, i.3))
     ]
 
 pub returns : goal.returns

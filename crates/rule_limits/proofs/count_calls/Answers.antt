@@ -1,7 +1,5 @@
-use Prim.Native.Nat.{◌-◌}
 use native.Mathlib.Omega.{arith}
 use mathlib.Core.Path.{◌≡◌, sym, ap, ◌∙◌}
-use mathlib.Core.Logic.{⊎_elim}
 use Rattle.table.specs.Lists.{customer_at}
 use Rattle.table.specs.Words.{table_of}
 use Rattle.table.proofs.Slots.{open_rest}

@@ -1,4 +1,4 @@
-use Prim.Native.Nat.{ℕ, ◌-◌}
+use Prim.Native.Nat.{ℕ}
 use native.Mathlib.Omega.{arith}
 use mathlib.Core.Path.{◌≡◌, refl, sym, ap, ◌∙◌}
 use mathlib.Core.Bool.{Bool, not, ◌&&◌, and-true}
@@ -7,7 +7,7 @@ use Rattle.lists.proofs.Below.{every_none, has_none, has_turn, sum_none, sum_tur
 use Rattle.lists.proofs.Pairs.{pairs_none, inner_turn, outer_turn, no_two_places}
 use Rattle.table.specs.Table.{Table}
 use Rattle.table.specs.Lists.{customer_at, terms_of}
-use Rattle.table.specs.Rules.{bad_share, same_address, acceptable}
+use Rattle.table.specs.Rules.{same_address, acceptable}
 use Rattle.table.specs.Total.{total_for}
 use Rattle.table.specs.Words.{table_of}
 use Rattle.table_words.specs.Heads.{customer_head_of}

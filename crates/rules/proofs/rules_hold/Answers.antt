@@ -2,7 +2,6 @@
 -- twice.
 use mathlib.Core.Bool.{Bool, true, false, ◌&&◌, and-false}
 use mathlib.Core.Path.{◌≡◌, refl, sym, ap₂, ◌∙◌}
-use borrow.Author.Rules.{rules}
 use Rattle.lists.proofs.Tests.{both}
 use Rattle.table.specs.Table.{Table}
 use Rattle.table.specs.Rules.{holds, roster_acceptable, slots_within_total, senders_listed, within_limits, share_within_total, short_ids_once, long_ids_once, requests_once, names_and_ids, refreshes_past, connections_once, free_holds_zeros, rules_hold}

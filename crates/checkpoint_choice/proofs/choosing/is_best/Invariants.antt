@@ -1,6 +1,5 @@
 -- `choosing::is_best` meets its contract: the walk has come to place `e - 1`, and has met no better record. The loop does
 -- not use the factors: its invariant says that there are some.
-use Prim.Native.Nat.{◌-◌}
 use mathlib.Core.Path.{◌≡◌}
 use lib.ListN.{get_or}
 use Rattle.checkpoint_chains.specs.declared.Factors.{Factors}

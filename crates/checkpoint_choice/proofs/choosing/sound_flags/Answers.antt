@@ -1,9 +1,7 @@
-use Prim.Native.Nat.{◌-◌}
 use native.Mathlib.Omega.{arith}
 use native.Mathlib.Nat.{not-suc-le-zero}
 use mathlib.Core.Path.{◌≡◌, ap, ◌∙◌}
 use Rattle.lists.specs.Count.{bit}
-use Rattle.spec_checkpoint.specs.Salvage.{sound_alone}
 use Rattle.checkpoint_choice.proofs.Best.{filled_turn}
 use borrow.Author.Rules.{rules}
 use Rattle.checkpoint_choice.proofs.choosing.sound_flags.Goals as goal

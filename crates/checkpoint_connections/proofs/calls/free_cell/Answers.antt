@@ -1,7 +1,5 @@
-use Prim.Native.Nat.{◌-◌}
 use native.Mathlib.Omega.{arith}
 use mathlib.Core.Path.{refl}
-use mathlib.Core.Bool.{false}
 use Rattle.checkpoint_connections.proofs.Cells.{passed_start, passed_on, passed_most, passed_free}
 use Rattle.checkpoint_connections.proofs.calls.free_cell.Goals as goal
 

@@ -1,4 +1,3 @@
-use Prim.Native.Nat.{◌-◌}
 use native.Mathlib.Omega.{arith}
 use Rattle.table.specs.Lists.{held_place}
 use Rattle.table_words.specs.Fours.{four_at_word}

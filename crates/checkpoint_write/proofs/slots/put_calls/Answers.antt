@@ -1,8 +1,6 @@
-use Prim.Native.Nat.{◌-◌}
 use native.Mathlib.Omega.{arith}
 use mathlib.Core.Path.{◌≡◌, sym, ◌∙◌}
 use Rattle.table.specs.Total.{slots}
-use Rattle.table.specs.Word.{is_used}
 use Rattle.table.specs.Words.{table_of}
 use Rattle.checkpoint_write.specs.Bytes.{calls_bytes}
 use Rattle.checkpoint_write.proofs.Grown.{none, room, within_turn, turn}

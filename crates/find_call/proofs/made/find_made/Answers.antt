@@ -1,4 +1,4 @@
-use Rattle.std.proofs.Common.{◌≡◌, ◌-◌, ◌&&◌, sym, refl, ◌∙◌, arith}
+use Rattle.std.proofs.Common.{◌≡◌, ◌&&◌, sym, refl, ◌∙◌, arith}
 use Rattle.lists.proofs.Below.{has_none, has_element, has_turn}
 use Rattle.lists.proofs.Search.{place_none, place_turn, place_rest}
 use Rattle.table.specs.Total.{slots}

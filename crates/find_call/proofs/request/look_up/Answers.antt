@@ -1,4 +1,4 @@
-use Rattle.std.proofs.Common.{◌≡◌, ◌-◌, arith}
+use Rattle.std.proofs.Common.{◌≡◌, arith}
 use Rattle.find_call.proofs.Looked.{look_none, look_turn, look_all}
 use Rattle.find_call.proofs.request.look_up.Goals as goal
 

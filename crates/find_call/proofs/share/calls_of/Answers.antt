@@ -1,4 +1,4 @@
-use Rattle.std.proofs.Common.{◌≡◌, ◌-◌, sym, refl, ap, ◌∙◌, arith}
+use Rattle.std.proofs.Common.{◌≡◌, sym, refl, ap, ◌∙◌, arith}
 use Rattle.lists.proofs.Below.{count_none, count_turn}
 use Rattle.table.specs.Share.{calls_of}
 use Rattle.table.specs.Words.{table_of}

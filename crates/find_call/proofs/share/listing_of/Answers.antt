@@ -1,4 +1,4 @@
-use Rattle.std.proofs.Common.{◌≡◌, ◌-◌, ◌&&◌, eqb, ltb, sym, refl, ap, ◌∙◌, arith}
+use Rattle.std.proofs.Common.{◌≡◌, ◌&&◌, eqb, ltb, sym, refl, ap, ◌∙◌, arith}
 use Rattle.lists.proofs.Below.{has_none, has_element, has_turn, first_none, first_turn}
 use Rattle.lists.proofs.Search.{place_none, place_turn}
 use Rattle.table.specs.Lists.{Terms, terms_of, customer_at, listed_at}

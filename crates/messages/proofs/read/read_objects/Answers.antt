@@ -1,16 +1,11 @@
 -- `read::read_objects` meets its contract: a Notify is its own case of `objects_read`, and the other kinds say what
 -- `adds` is.
 use Prim.Native.Nat.{ℕ}
-use native.Mathlib.Omega.{arith}
 use mathlib.Core.Path.{◌≡◌, refl, ap, ◌∙◌}
-use mathlib.Core.List.{List, [], ◌∷◌}
-use mathlib.Core.Logic.{⊎_elim}
+use mathlib.Core.List.{List}
 use mathlib.Core.Bool.{Bool, true, false}
-use denote.Enum.Declared.{tag_of}
-use types.Run.{OneOf}
 use Rattle.objects.specs.declared.walk.Objects.{Objects}
 use Rattle.messages.specs.declared.header.MessageType.{MessageType}
-use Rattle.messages.specs.contracts.header.MessageType as message-type
 use Rattle.messages.specs.declared.header.MessageType.TheVariants.{Path, PathTear, Notify}
 use Rattle.messages.specs.Read.{path_of, objects_read}
 use Rattle.messages.proofs.read.read_objects.Goals as goal

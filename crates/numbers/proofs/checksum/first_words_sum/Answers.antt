@@ -1,4 +1,4 @@
-use Rattle.std.proofs.Common.{◌-◌, refl, ap, ◌∙◌, add-one, arith}
+use Rattle.std.proofs.Common.{refl, ap, ◌∙◌, add-one, arith}
 use Rattle.numbers.specs.Checksum.{first_words, all_round, sum_so_far}
 use Rattle.numbers.proofs.Sum.{round_step}
 use Rattle.numbers.proofs.checksum.first_words_sum.Goals as goal

@@ -1,4 +1,3 @@
-use Prim.Native.Nat.{◌-◌}
 use native.Mathlib.Omega.{arith}
 use mathlib.Core.Path.{◌≡◌, refl}
 use Rattle.table_words.proofs.NameBytes.{spelled_none, spelled_turn, spelled_all, name_fits}
