@@ -5,104 +5,105 @@
 
 ghost use Rattle.std.specs.Prelude.{◌-◌, ◌*◌, ◌≤◌, length};
 
-use libc::STDOUT_FILENO;
 use messages::message::{CallRequest, Connection, Message};
 use messages::read::{Reading, read};
 use objects::fault::{Fault, number};
 use objects::fields::Part;
 use rosters::read_roster;
 use rules::rules_hold;
+use std::io;
+use streams::read_full;
 use table::answer::roster_number;
 use table::layout::{WORDS, Words};
 use table_words::customers::{CustomerHead, customer_head};
 use table_words::head::{address, epoch, form, listed, next};
 
-fn print_word(word: &[u8]) {
-    io::write_all(STDOUT_FILENO, word);
+fn print_word(rt: &impl Print, word: &[u8]) -> io::Result<()> {
+    rt.write_all(word)
 }
 
-fn print_count(label: &[u8], n: usize) {
-    print_word(label);
-    io::print_decimal(STDOUT_FILENO, n as u64);
+fn print_count(rt: &impl Print, label: &[u8], n: usize) -> io::Result<()> {
+    print_word(rt, label)?;
+    print!(rt; "{n}")
 }
 
-fn print_number(label: &[u8], n: u32) {
-    print_word(label);
-    io::print_decimal(STDOUT_FILENO, n as u64);
+fn print_number(rt: &impl Print, label: &[u8], n: u32) -> io::Result<()> {
+    print_word(rt, label)?;
+    print!(rt; "{n}")
 }
 
-fn print_address(label: &[u8], address: u32) {
-    print_word(label);
-    io::print_hex(STDOUT_FILENO, address as u64, 8);
+fn print_address(rt: &impl Print, label: &[u8], address: u32) -> io::Result<()> {
+    print_word(rt, label)?;
+    print!(rt; "{address:08x}")
 }
 
-fn print_part(label: &[u8], p: Part) {
-    print_count(label, p.at);
-    print_count(b"+", p.size);
+fn print_part(rt: &impl Print, label: &[u8], p: Part) -> io::Result<()> {
+    print_count(rt, label, p.at)?;
+    print_count(rt, b"+", p.size)
 }
 
-fn print_fault(label: &[u8], fault: Fault) {
-    print_number(label, number(fault) as u32);
+fn print_fault(rt: &impl Print, label: &[u8], fault: Fault) -> io::Result<()> {
+    print_number(rt, label, number(fault) as u32)
 }
 
-fn print_request(label: &[u8], r: CallRequest) {
-    print_address(label, r.endpoint);
-    print_address(b" sender ", r.sender);
-    print_number(b" call ", r.call.0 as u32);
-    print_part(b" name ", r.name);
-    print_number(b" epoch ", r.sequence.epoch);
-    print_number(b" identifier ", r.sequence.identifier);
-    print_part(b" session ", r.session);
-    print_part(b" attribute ", r.attribute);
-    print_part(b" template ", r.template);
+fn print_request(rt: &impl Print, label: &[u8], r: CallRequest) -> io::Result<()> {
+    print_address(rt, label, r.endpoint)?;
+    print_address(rt, b" sender ", r.sender)?;
+    print_number(rt, b" call ", r.call.0 as u32)?;
+    print_part(rt, b" name ", r.name)?;
+    print_number(rt, b" epoch ", r.sequence.epoch)?;
+    print_number(rt, b" identifier ", r.sequence.identifier)?;
+    print_part(rt, b" session ", r.session)?;
+    print_part(rt, b" attribute ", r.attribute)?;
+    print_part(rt, b" template ", r.template)
 }
 
-fn print_connection(label: &[u8], c: Connection) {
-    print_address(label, c.lsp.endpoint);
-    print_address(b" sender ", c.lsp.sender);
-    print_number(b" call ", c.call.0 as u32);
-    print_number(b" tunnel ", c.lsp.tunnel.0 as u32);
-    print_address(b" extended ", c.lsp.extended);
-    print_number(b" lsp ", c.lsp.lsp.0 as u32);
-    print_part(b" session ", c.session);
-    print_part(b" template ", c.template);
+fn print_connection(rt: &impl Print, label: &[u8], c: Connection) -> io::Result<()> {
+    print_address(rt, label, c.lsp.endpoint)?;
+    print_address(rt, b" sender ", c.lsp.sender)?;
+    print_number(rt, b" call ", c.call.0 as u32)?;
+    print_number(rt, b" tunnel ", c.lsp.tunnel.0 as u32)?;
+    print_address(rt, b" extended ", c.lsp.extended)?;
+    print_number(rt, b" lsp ", c.lsp.lsp.0 as u32)?;
+    print_part(rt, b" session ", c.session)?;
+    print_part(rt, b" template ", c.template)
 }
 
-fn print_message(m: Message) {
+fn print_message(rt: &impl Print, m: Message) -> io::Result<()> {
     match m {
-        Message::Open(r) => print_request(b" open ", r),
-        Message::Close(r) => print_request(b" close ", r),
-        Message::Add(c) => print_connection(b" add ", c),
-        Message::Drop(c) => print_connection(b" drop ", c),
+        Message::Open(r) => print_request(rt, b" open ", r),
+        Message::Close(r) => print_request(rt, b" close ", r),
+        Message::Add(c) => print_connection(rt, b" add ", c),
+        Message::Drop(c) => print_connection(rt, b" drop ", c),
     }
 }
 
-fn print_reading(r: Reading) {
+fn print_reading(rt: &impl Print, r: Reading) -> io::Result<()> {
     match r {
         Reading::Refused {
             fault,
             offset,
             headers,
         } => {
-            print_fault(b" refused ", fault);
-            print_count(b" offset ", offset);
-            print_count(b" headers ", headers);
+            print_fault(rt, b" refused ", fault)?;
+            print_count(rt, b" offset ", offset)?;
+            print_count(rt, b" headers ", headers)?;
         }
         Reading::Unfit {
             fault,
             sender,
             headers,
         } => {
-            print_fault(b" unfit ", fault);
-            print_address(b" sender ", sender);
-            print_count(b" headers ", headers);
+            print_fault(rt, b" unfit ", fault)?;
+            print_address(rt, b" sender ", sender)?;
+            print_count(rt, b" headers ", headers)?;
         }
         Reading::Read { message, headers } => {
-            print_message(message);
-            print_count(b" headers ", headers);
+            print_message(rt, message)?;
+            print_count(rt, b" headers ", headers)?;
         }
     }
-    print_word(b"\n");
+    print_word(rt, b"\n")
 }
 
 // The value of a hex digit, or 16 for another character.
@@ -148,62 +149,62 @@ fn decode(text: &[u8], from: usize, end: usize, out: &mut [u8]) -> usize
     i
 }
 
-fn print_customer(c: CustomerHead) {
-    print_address(b" customer ", c.address);
-    print_count(b" ", c.guarantee);
-    print_count(b" ", c.limit);
+fn print_customer(rt: &impl Print, c: CustomerHead) -> io::Result<()> {
+    print_address(rt, b" customer ", c.address)?;
+    print_count(rt, b" ", c.guarantee)?;
+    print_count(rt, b" ", c.limit)
 }
 
-fn print_customers(t: &Words) {
+fn print_customers(rt: &impl Print, t: &Words) -> io::Result<()> {
     let count = listed(t);
     let mut k: usize = 0;
     while k < 8 {
         if k < count {
-            print_customer(customer_head(t, k));
+            print_customer(rt, customer_head(t, k))?;
         }
         k += 1;
     }
+    Ok(())
 }
 
-fn print_rules(holds: bool) {
+fn print_rules(rt: &impl Print, holds: bool) -> io::Result<()> {
     if holds {
-        print_word(b" rules hold\n");
+        print_word(rt, b" rules hold\n")
     } else {
-        print_word(b" rules broken\n");
+        print_word(rt, b" rules broken\n")
     }
 }
 
 // What stands in a roster's table: own address and epoch, the next own identifier, the roster's form (0 where it was
 // refused), the customers with guarantee and limit, and whether the table keeps the rules.
-fn print_table(t: &Words) {
-    print_address(b" own ", address(t));
-    print_number(b" epoch ", epoch(t));
-    print_number(b" next ", next(t));
-    print_number(b" form ", form(t));
-    print_customers(t);
-    print_rules(rules_hold(t));
+fn print_table(rt: &impl Print, t: &Words) -> io::Result<()> {
+    print_address(rt, b" own ", address(t))?;
+    print_number(rt, b" epoch ", epoch(t))?;
+    print_number(rt, b" next ", next(t))?;
+    print_number(rt, b" form ", form(t))?;
+    print_customers(rt, t)?;
+    print_rules(rt, rules_hold(t))
 }
 
-fn print_roster(s: &[u8]) {
+fn print_roster(rt: &impl Print, s: &[u8]) -> io::Result<()> {
     let mut t: Words = [0; WORDS];
     let answer = read_roster(&mut t, s);
-    print_number(b" roster ", roster_number(answer) as u32);
-    print_table(&t);
+    print_number(rt, b" roster ", roster_number(answer) as u32)?;
+    print_table(rt, &t)
 }
 
-fn read_word(text: &[u8], from: usize, end: usize, roster: bool)
+fn read_word(rt: &impl Print, text: &[u8], from: usize, end: usize, roster: bool) -> io::Result<()>
     requires { (from ≤ end) × (end ≤ length text.now) }
 {
-    let mut bytes = io::buffer();
+    let mut bytes = [0u8; 4096];
     let n = decode(text, from, end, &mut bytes);
     if 2 * n != end - from {
-        print_word(b" not hex\n");
-        return;
+        return print_word(rt, b" not hex\n");
     }
     if roster {
-        print_roster(&bytes[..n]);
+        print_roster(rt, &bytes[..n])
     } else {
-        print_reading(read(&bytes[..n]));
+        print_reading(rt, read(&bytes[..n]))
     }
 }
 
@@ -254,7 +255,7 @@ fn last_word(text: &[u8], from: usize, end: usize) -> usize
     i
 }
 
-fn read_lines(text: &[u8])
+fn read_lines(rt: &impl Print, text: &[u8]) -> io::Result<()>
     requires { length text.now ≤ 65536 }
 {
     let mut at = 0;
@@ -263,20 +264,22 @@ fn read_lines(text: &[u8])
         let end = next_of(text, at, b'\n');
         if text[at] != b'#' {
             line += 1;
-            io::print_decimal(STDOUT_FILENO, line);
+            print!(rt; "{line}")?;
             read_word(
+                rt,
                 text,
                 last_word(text, at, end),
                 end,
                 is_roster(text, at, end),
-            );
+            )?;
         }
         at = end + 1;
     }
+    Ok(())
 }
 
-fn main() {
-    let mut input = io::large_buffer();
-    let n = io::read_full(0, &mut input);
-    read_lines(&input[..n]);
+fn main(rt: HostRuntime) -> io::Result<()> {
+    let mut input = [0u8; 65536];
+    let n = read_full(&mut rt.stdin(), &mut input)?;
+    read_lines(&rt, &input[..n])
 }

@@ -8,11 +8,12 @@ ghost use Rattle.table.specs.Total.{slots};
 ghost use Rattle.table_words.specs.Fours.{FourInside};
 
 use checkpoint_read::read_checkpoint;
-use libc::{STDIN_FILENO, STDOUT_FILENO};
-use lists::to_usize;
 use numbers::big_endian::get32;
 use occupancy::is_used;
 use rosters::read_roster;
+use std::io;
+use std::io::Read;
+use streams::read_full;
 use table::answer::roster_number;
 use table::layout::{CUSTOMERS, SLOTS, WORDS, Words};
 use table_words::calls::{CallWord, call_head};
@@ -38,137 +39,142 @@ fn smaller(a: usize, b: usize) -> usize
 }
 
 // Reads over what does not fit the space: no roster and no copy that is accepted is so long.
-fn skip(size: usize) -> bool {
+fn skip(input: &mut impl Read, size: usize) -> io::Result<bool> {
     let mut left = size;
     while 0 < left {
-        let mut scratch = io::buffer();
+        let mut scratch = [0u8; 4096];
         let n = smaller(left, 4096);
-        if io::read_full(STDIN_FILENO, &mut scratch[..n]) < n {
-            return false;
+        if read_full(input, &mut scratch[..n])? < n {
+            return Ok(false);
         }
         left -= n;
     }
-    true
+    Ok(true)
 }
 
 // The next frame, at the front of the space, as much of it as fits.
-fn next_frame(space: &mut [u8]) -> Frame {
+fn next_frame(input: &mut impl Read, space: &mut [u8]) -> io::Result<Frame> {
     let mut head = [0u8; 4];
-    if io::read_full(STDIN_FILENO, &mut head) < 4 {
-        return Frame::Cut;
+    if read_full(input, &mut head)? < 4 {
+        return Ok(Frame::Cut);
     }
     let size = get32(&head, 0) as usize;
     let kept = smaller(size, space.len());
-    if io::read_full(STDIN_FILENO, &mut space[..kept]) < kept {
-        return Frame::Cut;
+    if read_full(input, &mut space[..kept])? < kept {
+        return Ok(Frame::Cut);
     }
-    if skip(size - kept) {
-        return Frame::Whole(kept);
+    if skip(input, size - kept)? {
+        return Ok(Frame::Whole(kept));
     }
-    Frame::Cut
+    Ok(Frame::Cut)
 }
 
-fn print_text(text: &[u8]) {
-    io::write_all(STDOUT_FILENO, text);
+fn print_text(rt: &impl Print, text: &[u8]) -> io::Result<()> {
+    rt.write_all(text)
 }
 
-fn print_number(n: u64) {
-    print_text(b" ");
-    io::print_decimal(STDOUT_FILENO, n);
+fn print_number(rt: &impl Print, n: u64) -> io::Result<()> {
+    print_text(rt, b" ")?;
+    print!(rt; "{n}")
 }
 
-fn print_address(a: u32) {
-    print_number((a / 16777216) as u64);
-    print_text(b".");
-    io::print_decimal(STDOUT_FILENO, (a / 65536 % 256) as u64);
-    print_text(b".");
-    io::print_decimal(STDOUT_FILENO, (a / 256 % 256) as u64);
-    print_text(b".");
-    io::print_decimal(STDOUT_FILENO, (a % 256) as u64);
+fn print_address(rt: &impl Print, a: u32) -> io::Result<()> {
+    print_number(rt, (a / 16777216) as u64)?;
+    print!(rt; ".{}.{}.{}", a / 65536 % 256, a / 256 % 256, a % 256)
 }
 
-fn print_name(t: &Words, i: usize, size: u32)
+fn print_name(rt: &impl Print, t: &Words, i: usize, size: u32) -> io::Result<()>
     requires { i < slots }
 {
     let n = name_size(size);
     let mut k: usize = 0;
     while k < n {
-        io::print_hex(STDOUT_FILENO, to_usize(name_byte(t, i, k)) as u64, 2);
+        let byte = name_byte(t, i, k);
+        print!(rt; "{byte:02x}")?;
         k += 1;
     }
+    Ok(())
 }
 
-fn print_call(t: &Words, i: usize)
+fn print_call(rt: &impl Print, t: &Words, i: usize) -> io::Result<()>
     requires { i < slots }
 {
     let c = call_head(t, i);
-    print_text(b"call");
-    print_number(i as u64);
-    print_address(c.endpoint);
-    print_address(c.sender);
-    print_number(c.id.0 as u64);
-    print_text(b" ");
-    print_name(t, i, c.size);
-    print_text(b"\n");
+    print_text(rt, b"call")?;
+    print_number(rt, i as u64)?;
+    print_address(rt, c.endpoint)?;
+    print_address(rt, c.sender)?;
+    print_number(rt, c.id.0 as u64)?;
+    print_text(rt, b" ")?;
+    print_name(rt, t, i, c.size)?;
+    print_text(rt, b"\n")
 }
 
-fn print_connection(call: CallWord, sender: u32, endpoint: u32, p: PlaceWords) {
-    print_text(b"connection");
-    print_address(endpoint);
-    print_number(call.0 as u64);
-    print_number(p.tunnel.0 as u64);
-    print_number(p.extended as u64);
-    print_address(sender);
-    print_number(p.lsp.0 as u64);
-    print_text(b"\n");
+fn print_connection(
+    rt: &impl Print,
+    call: CallWord,
+    sender: u32,
+    endpoint: u32,
+    p: PlaceWords,
+) -> io::Result<()> {
+    print_text(rt, b"connection")?;
+    print_address(rt, endpoint)?;
+    print_number(rt, call.0 as u64)?;
+    print_number(rt, p.tunnel.0 as u64)?;
+    print_number(rt, p.extended as u64)?;
+    print_address(rt, sender)?;
+    print_number(rt, p.lsp.0 as u64)?;
+    print_text(rt, b"\n")
 }
 
-fn print_four(t: &Words, f: FourPlace)
+fn print_four(rt: &impl Print, t: &Words, f: FourPlace) -> io::Result<()>
     requires { FourInside f }
 {
     let mut j: usize = 0;
     while j < 4 {
         let p = place_words(t, f, j);
         if p.taken == 1 {
-            print_connection(f.call, f.sender, endpoint_at(t, f, j), p);
+            print_connection(rt, f.call, f.sender, endpoint_at(t, f, j), p)?;
         }
         j += 1;
     }
+    Ok(())
 }
 
 // Calls in slot order, connections in the order of a copy. Free slots and unused records hold no connections.
-fn print_table(t: &Words) {
+fn print_table(rt: &impl Print, t: &Words) -> io::Result<()> {
     let mut i: usize = 0;
     while i < SLOTS {
         if is_used(t, i) {
-            print_call(t, i);
+            print_call(rt, t, i)?;
         }
         i += 1;
     }
     let mut m: usize = 0;
     while m < SLOTS {
-        print_four(t, call_four(t, m));
+        print_four(rt, t, call_four(t, m))?;
         m += 1;
     }
     let mut k: usize = 0;
     while k < CUSTOMERS {
-        print_four(t, customer_four(t, k));
+        print_four(rt, t, customer_four(t, k))?;
         k += 1;
     }
+    Ok(())
 }
 
-fn read_table(salvage: bool, roster: &[u8], copy: &[u8]) {
+fn read_table(rt: &impl Print, salvage: bool, roster: &[u8], copy: &[u8]) -> io::Result<()> {
     let mut t: Words = [0; WORDS];
     let answer = read_roster(&mut t, roster);
-    print_text(b"roster");
-    print_number(roster_number(answer) as u64);
-    print_text(b"\ncopy");
+    print_text(rt, b"roster")?;
+    print_number(rt, roster_number(answer) as u64)?;
+    print_text(rt, b"\ncopy")?;
     let r = read_checkpoint(&mut t, salvage, roster, copy);
-    print_number(r.answer as u64);
-    print_number(r.calls as u64);
-    print_number(r.connections as u64);
-    print_text(b"\n");
-    print_table(&t);
+    print_number(rt, r.answer as u64)?;
+    print_number(rt, r.calls as u64)?;
+    print_number(rt, r.connections as u64)?;
+    print_text(rt, b"\n")?;
+    print_table(rt, &t)
 }
 
 // Salvage is asked for by a mode byte of 1.
@@ -180,39 +186,53 @@ fn is_salvage(mode: &[u8]) -> bool {
 }
 
 // The roster and the copy, in the first bytes of their spaces.
-fn read_parts(salvage: bool, roster: &[u8], listed: usize, copy: &[u8], copied: usize) {
+fn read_parts(
+    rt: &impl Print,
+    salvage: bool,
+    roster: &[u8],
+    listed: usize,
+    copy: &[u8],
+    copied: usize,
+) -> io::Result<()> {
     if roster.len() < listed {
-        return;
+        return Ok(());
     }
     if copy.len() < copied {
-        return;
+        return Ok(());
     }
-    read_table(salvage, &roster[..listed], &copy[..copied]);
+    read_table(rt, salvage, &roster[..listed], &copy[..copied])
 }
 
 // The three frames; false where one is cut.
-fn read_frames(mode: &mut [u8], roster: &mut [u8], copy: &mut [u8; COPY]) -> bool {
-    let a = next_frame(mode);
+fn read_frames(
+    rt: &impl Print,
+    input: &mut impl Read,
+    mode: &mut [u8],
+    roster: &mut [u8],
+    copy: &mut [u8; COPY],
+) -> io::Result<bool> {
+    let a = next_frame(input, mode)?;
     let Frame::Whole(_) = a else {
-        return false;
+        return Ok(false);
     };
-    let b = next_frame(roster);
+    let b = next_frame(input, roster)?;
     let Frame::Whole(listed) = b else {
-        return false;
+        return Ok(false);
     };
-    let c = next_frame(copy);
+    let c = next_frame(input, copy)?;
     let Frame::Whole(copied) = c else {
-        return false;
+        return Ok(false);
     };
-    read_parts(is_salvage(mode), roster, listed, copy, copied);
-    true
+    read_parts(rt, is_salvage(mode), roster, listed, copy, copied)?;
+    Ok(true)
 }
 
-fn main() {
+fn main(rt: HostRuntime) -> io::Result<()> {
     let mut mode = [0u8; 1];
-    let mut roster = io::buffer();
+    let mut roster = [0u8; 4096];
     let mut copy = [0u8; COPY];
-    if !read_frames(&mut mode, &mut roster, &mut copy) {
-        print_text(b"cut\n");
+    if !read_frames(&rt, &mut rt.stdin(), &mut mode, &mut roster, &mut copy)? {
+        print_text(&rt, b"cut\n")?;
     }
+    Ok(())
 }

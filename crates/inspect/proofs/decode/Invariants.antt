@@ -1,7 +1,5 @@
 -- `decode` is safe, and counts no more bytes than out has room for and the text has pairs.
-use Prim.Native.Nat.{◌≤◌, ◌-◌, ◌*◌}
-use mathlib.Core.Path.{◌≡◌}
-use lib.ListN.{length}
+use Rattle.std.proofs.Common.{◌≡◌, ◌-◌, ◌*◌, ◌≤◌, length}
 use Rattle.inspect.proofs.decode.Given as goal
 
 abbrev pub invariant-loop-i : goal.invariant-loop-i

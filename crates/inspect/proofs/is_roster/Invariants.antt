@@ -1,7 +1,5 @@
 -- `is_roster` is safe: the seven bytes that it compares lie within the line.
-use Prim.Native.Nat.{◌≤◌, ◌-◌}
-use mathlib.Core.Path.{◌≡◌}
-use lib.ListN.{length}
+use Rattle.std.proofs.Common.{◌≡◌, ◌-◌, ◌≤◌, length}
 use Rattle.inspect.proofs.is_roster.Given as goal
 
 abbrev pub invariant-loop-k : goal.invariant-loop-k

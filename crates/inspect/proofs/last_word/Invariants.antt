@@ -1,5 +1,5 @@
 -- `last_word` stays within the line.
-use Prim.Native.Nat.{◌≤◌, ◌-◌}
+use Rattle.std.proofs.Common.{◌-◌, ◌≤◌}
 use Rattle.inspect.proofs.last_word.Given as goal
 
 abbrev pub invariant-loop-i : goal.invariant-loop-i

@@ -1,6 +1,5 @@
 -- `next_of` stays between the place it starts at and the text's end.
-use Prim.Native.Nat.{◌≤◌, ◌-◌}
-use lib.ListN.{length}
+use Rattle.std.proofs.Common.{◌-◌, ◌≤◌, length}
 use Rattle.inspect.proofs.next_of.Given as goal
 
 abbrev pub invariant-loop-i : goal.invariant-loop-i
