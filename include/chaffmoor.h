@@ -1,4 +1,4 @@
-/* Chaffmoor: the call side of a light-path node. Link with target/staticlib/libchaffmoor.a (rt staticlib chaffmoor).
+/* Chaffmoor: the call side of a light-path node. Link with target/staticlib/libchaffmoor.a (tests/libraries chaffmoor).
  *
  * Every byte string handed in gets an answer by number (docs/ANSWERS.md). The table is plain data of fixed size, 6,622
  * words of 32 bits. The caller owns it, lends it by pointer with each message and keeps it between messages; the node
