@@ -1,5 +1,5 @@
 //! Links the static libraries, for the comparison and, through it, the benchmark. CHAFFMOOR_LIB names the folder that
-//! they are in; without it, that is where `rt staticlib` leaves them. With the feature `stand_in` nothing is linked.
+//! they are in; without it, that is where `tests/libraries` leaves them. With the feature `stand_in` nothing is linked.
 
 use std::env;
 use std::path::{Path, PathBuf};
