@@ -108,6 +108,9 @@ fn long_chain(s: &[u8], f: Factors, i: usize) -> usize
     spread(f, get32(s, at + 3), get32(s, at + 7), sum, 0) / 2
 }
 
+// The flag of the records that go into the chains.
+const CHAINED: u8 = 1;
+
 // The records that are sound in chains by pair and long Call ID, the last record first, so that a walk meets the first
 // record first, the one kept of those that are named alike. One that is not sound is never better than another: no walk
 // need pass it. Place k in the chains is for record calls - 1 - k. The caller lends heads of zeros, and links: what
@@ -127,7 +130,7 @@ pub fn long_chains(
     let mut k: usize = 0;
     while k < calls {
         let i = calls - 1 - k;
-        if sound[i] == 1 {
+        if sound[i] == CHAINED {
             let m = long_chain(s, f, i);
             links[k] = heads[m];
             heads[m] = (k + 1) as u16;
