@@ -1,6 +1,5 @@
 // Open without names (02, A6): the node makes both IDs, and its answer carries them.
 ghost use Rattle.std.specs.Prelude.{◌≡◌, true, ◌≤◌, ◌<◌, length};
-ghost use Rattle.messages.specs.Inside.{CallInside};
 ghost use Rattle.messages.specs.declared.message.Message.TheVariants.{Open};
 ghost use Rattle.reply_objects.specs.Buffer.{least_buffer};
 ghost use Rattle.table.specs.Total.{slots};
@@ -15,16 +14,16 @@ ghost use Rattle.find_call.specs.Listed.{ListingOf};
 ghost use Rattle.outcomes.specs.Outcomes.{handed_back, ruled};
 ghost use Rattle.answer_call.specs.Notified.{made_bytes, Notified};
 
-use crate::sending::{notified, notified_made};
+use crate::sending::notified;
 use answers::answer::Answer;
 use find_call::made::find_made;
 use find_call::share::{Listing, share_used_up};
 use make_ids::name::{MADE_SIZE, made_name_words, name_bytes};
 use make_ids::short::made_short;
-use messages::message::CallRequest;
 use messages::status::C;
 use occupancy::lowest_free;
 use outcomes::outcome::Outcome;
+use outcomes::request::{MadeIds, Request};
 use table::layout::Words;
 use table_words::calls::call_head;
 use table_words::names::name_byte;
@@ -36,64 +35,49 @@ fn slot_name(t: &Words, i: usize) -> [u8; 32]
     ensures { result ≡ (call_at (table_of t.now) i).name }
 {
     let mut name = [0u8; 32];
-    let mut k: usize = 0;
-    while k < 32 {
+    for k in 0..32 {
         name[k] = name_byte(t, i, k);
-        k += 1;
     }
     name
 }
 
 // 21, with the IDs of the call in a used slot, which is refreshed: the rules hold, so that they fit their fields.
-fn answered_again(
-    t: &mut Words,
-    msg: &[u8],
-    q: CallRequest,
-    slot: usize,
-    reply: &mut [u8],
-) -> Outcome
-    requires { (rules_hold (table_of t.old) ≡ true) × (slot < slots) × (is_used (table_of t.old).occupied slot ≡ true) × CallInside msg.now q × (least_buffer ≤ length reply.old) }
-    ensures { Notified (refreshed_at (table_of t.old) slot) (made_bytes (table_of t.old) msg.now q CallAlreadyOpen (ids_of (call_at (table_of t.old) slot)).short (ids_of (call_at (table_of t.old) slot)).long) CallAlreadyOpen reply.old result (table_of t.new) reply.new }
+fn answered_again(t: &mut Words, r: Request, slot: usize, reply: &mut [u8]) -> Outcome
+    requires { (rules_hold (table_of t.old) ≡ true) × (slot < slots) × (is_used (table_of t.old).occupied slot ≡ true) × (least_buffer ≤ length reply.old) }
+    ensures { Notified (refreshed_at (table_of t.old) slot) (made_bytes (table_of t.old) r.entry.msg.now r.entry.q CallAlreadyOpen (ids_of (call_at (table_of t.old) slot)).short (ids_of (call_at (table_of t.old) slot)).long) CallAlreadyOpen reply.old result (table_of t.new) reply.new }
 {
     let c = call_head(t, slot);
     let name = slot_name(t, slot);
     let call = c.id.0 as u16;
     refresh_slot(t, slot);
-    notified_made(
-        t,
-        msg,
-        q,
-        Answer::CallAlreadyOpen,
+    let made = MadeIds {
         call,
-        &name,
-        c.size as usize,
-        reply,
-    )
+        name: &name[..c.size as usize],
+    };
+    notified(t, r, C, Answer::CallAlreadyOpen, Some(made), reply)
 }
 
 // 21, 34, 20. The rules hold and the sender is listed, so that a call that may be opened has a free slot; its listing is
 // handed in, since the caller has looked it up. The request has no name.
-pub fn open_nameless(
-    t: &mut Words,
-    msg: &[u8],
-    q: CallRequest,
-    listing: Listing,
-    reply: &mut [u8],
-) -> Outcome
-    requires { (rules_hold (table_of t.old) ≡ true) × (is_listed (roster (table_of t.old)) q.sender ≡ true) × CallInside msg.now q × (q.name.size ≡ 0) × (least_buffer ≤ length reply.old) × ListingOf (table_of t.old) q.sender listing }
-    ensures { handed_back result (table_of t.new) reply.new ≡ ruled (table_of t.old) msg.now reply.old (Open q) }
+pub fn open_nameless(t: &mut Words, r: Request, listing: Listing, reply: &mut [u8]) -> Outcome
+    requires { (rules_hold (table_of t.old) ≡ true) × (is_listed (roster (table_of t.old)) r.q.sender ≡ true) × (r.q.name.size ≡ 0) × (least_buffer ≤ length reply.old) × ListingOf (table_of t.old) r.q.sender listing }
+    ensures { handed_back result (table_of t.new) reply.new ≡ ruled (table_of t.old) r.entry.msg.now reply.old (Open r.entry.q) }
 {
-    let m = find_made(t, q);
-    if m.known {
-        return answered_again(t, msg, q, m.slot, reply);
+    let q = r.q;
+    if let Some(slot) = find_made(t, q.endpoint, q.sender, q.sequence) {
+        return answered_again(t, r, slot, reply);
     }
     if share_used_up(t, q.sender, listing) {
-        return notified(t, msg, q, C, Answer::NoShare, reply);
+        return notified(t, r, C, Answer::NoShare, None, reply);
     }
     let id = made_short(t, q.endpoint, q.sender);
     let words = made_name_words(q.endpoint, q.sender, id);
     let name = name_bytes(&words);
     let slot = lowest_free(t);
     open_made(t, slot, q, id, &words);
-    notified_made(t, msg, q, Answer::CallOpened, id.0, &name, MADE_SIZE, reply)
+    let made = MadeIds {
+        call: id.0,
+        name: &name[..MADE_SIZE],
+    };
+    notified(t, r, C, Answer::CallOpened, Some(made), reply)
 }

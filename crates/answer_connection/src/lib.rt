@@ -60,18 +60,19 @@ pub fn add_connection(t: &mut Words, msg: &[u8], c: Connection, reply: &mut [u8]
         return unanswered(Answer::ConnectionAlreadyHeld);
     }
     let none = is_no_call(c.call);
-    if !none & !u.known {
+    if !none & u.slot.is_none() {
         return path_refused(t, msg, c, Answer::PathUnknownCall, reply);
     }
     if is_full(u.four, l.four) {
         return path_refused(t, msg, c, Answer::NoPlaceLeft, reply);
     }
-    if none {
-        let k = customer_of(t, c.lsp.sender);
-        add_standalone(t, k, c.lsp);
-        return unanswered(Answer::ConnectionAdded);
+    match u.slot {
+        Some(slot) if !none => add_under(t, slot, c.lsp),
+        _ => {
+            let k = customer_of(t, c.lsp.sender);
+            add_standalone(t, k, c.lsp);
+        }
     }
-    add_under(t, u.slot, c.lsp);
     unanswered(Answer::ConnectionAdded)
 }
 
@@ -80,14 +81,12 @@ pub fn drop_connection(t: &mut Words, c: Connection, reply: &mut [u8]) -> Outcom
     requires { rules_hold (table_of t.old) ≡ true }
     ensures { handed_back result (table_of t.new) reply.new ≡ ruled (table_of t.old) [] reply.old (Drop c) }
 {
-    let u = find_under(t, c.lsp);
-    if u.held {
-        remove_under(t, u.at, c.lsp);
+    if let Some(slot) = find_under(t, c.lsp) {
+        remove_under(t, slot, c.lsp);
         return unanswered(Answer::ConnectionRemoved);
     }
-    let l = find_standalone(t, c.lsp);
-    if l.held {
-        remove_standalone(t, l.at, c.lsp);
+    if let Some(k) = find_standalone(t, c.lsp) {
+        remove_standalone(t, k, c.lsp);
         return unanswered(Answer::ConnectionRemoved);
     }
     unanswered(Answer::NotHeld)

@@ -1,8 +1,7 @@
 // What a message is answered (document 01, "Every answer").
 ghost use Rattle.std.specs.Prelude.{◌≡◌};
-ghost use Rattle.answers.specs.Answers.{no_reply, by_notify, by_path_err, row_of, answer_number};
+ghost use Rattle.answers.specs.Answers.{row_of, answer_number};
 
-use objects::fault;
 use objects::fault::Fault;
 
 #[derive(Clone, Copy)]
@@ -59,34 +58,12 @@ pub struct AnswerRow {
     pub value: u16,
 }
 
-fn no_reply(number: u8) -> AnswerRow
-    ensures { result ≡ no_reply number }
+fn row(number: u8, reply: Reply, code: u8, value: u16) -> AnswerRow
+    ensures { result ≡ record { number = number; reply = reply; code = code; value = value } }
 {
     AnswerRow {
         number,
-        reply: Reply::Nothing,
-        code: 0,
-        value: 0,
-    }
-}
-
-fn by_notify(number: u8, code: u8, value: u16) -> AnswerRow
-    ensures { result ≡ by_notify number code value }
-{
-    AnswerRow {
-        number,
-        reply: Reply::Notify,
-        code,
-        value,
-    }
-}
-
-fn by_path_err(number: u8, code: u8, value: u16) -> AnswerRow
-    ensures { result ≡ by_path_err number code value }
-{
-    AnswerRow {
-        number,
-        reply: Reply::PathErr,
+        reply,
         code,
         value,
     }
@@ -96,33 +73,34 @@ pub fn row_of(a: Answer) -> AnswerRow
     ensures { result ≡ row_of a }
 {
     match a {
-        Answer::TableBroken => no_reply(1),
-        Answer::BufferTooSmall => no_reply(2),
-        Answer::Malformed(f) => no_reply(fault::number(f)),
-        Answer::SenderNotListed => no_reply(11),
-        Answer::UnderOtherCall => no_reply(14),
-        Answer::NotHeld => no_reply(15),
-        Answer::Late => no_reply(16),
-        Answer::CallOpened => by_notify(20, 0, 0),
-        Answer::CallAlreadyOpen => by_notify(21, 0, 0),
-        Answer::CallClosed => by_notify(22, 0, 0),
-        Answer::ConnectionAdded => no_reply(23),
-        Answer::ConnectionAlreadyHeld => no_reply(24),
-        Answer::ConnectionRemoved => no_reply(25),
-        Answer::CallIdContention => by_notify(30, 32, 1),
-        Answer::DuplicateCall => by_notify(31, 32, 4),
-        Answer::ConnectionsStillExist => by_notify(32, 32, 2),
-        Answer::UnknownCall => by_notify(33, 32, 3),
-        Answer::NoShare => by_notify(34, 2, 0),
-        Answer::PathUnknownCall => by_path_err(35, 32, 3),
-        Answer::NoPlaceLeft => by_path_err(37, 2, 0),
+        Answer::TableBroken => row(1, Reply::Nothing, 0, 0),
+        Answer::BufferTooSmall => row(2, Reply::Nothing, 0, 0),
+        Answer::Malformed(f) => row(u8::from(f), Reply::Nothing, 0, 0),
+        Answer::SenderNotListed => row(11, Reply::Nothing, 0, 0),
+        Answer::UnderOtherCall => row(14, Reply::Nothing, 0, 0),
+        Answer::NotHeld => row(15, Reply::Nothing, 0, 0),
+        Answer::Late => row(16, Reply::Nothing, 0, 0),
+        Answer::CallOpened => row(20, Reply::Notify, 0, 0),
+        Answer::CallAlreadyOpen => row(21, Reply::Notify, 0, 0),
+        Answer::CallClosed => row(22, Reply::Notify, 0, 0),
+        Answer::ConnectionAdded => row(23, Reply::Nothing, 0, 0),
+        Answer::ConnectionAlreadyHeld => row(24, Reply::Nothing, 0, 0),
+        Answer::ConnectionRemoved => row(25, Reply::Nothing, 0, 0),
+        Answer::CallIdContention => row(30, Reply::Notify, 32, 1),
+        Answer::DuplicateCall => row(31, Reply::Notify, 32, 4),
+        Answer::ConnectionsStillExist => row(32, Reply::Notify, 32, 2),
+        Answer::UnknownCall => row(33, Reply::Notify, 32, 3),
+        Answer::NoShare => row(34, Reply::Notify, 2, 0),
+        Answer::PathUnknownCall => row(35, Reply::PathErr, 32, 3),
+        Answer::NoPlaceLeft => row(37, Reply::PathErr, 2, 0),
     }
 }
 
 // The number that document 01 gives the answer.
-pub fn number(a: Answer) -> u8
-    ensures { result ≡ answer_number a }
-{
-    let row = row_of(a);
-    row.number
+impl From<Answer> for u8 {
+    ghost from_gives = { λ a n. n ≡ answer_number a };
+
+    fn from(a: Answer) -> u8 {
+        row_of(a).number
+    }
 }

@@ -9,31 +9,20 @@ ghost use Rattle.messages.specs.Read.{read_of};
 ghost use Rattle.bench_parts.specs.Number.{read_number};
 ghost use Rattle.bench_parts.specs.Sum.{part_sum};
 
-use messages::read::{Reading, read};
+use messages::read::{Received, Refusal, read};
 use numbers::checksum::first_words_sum;
-use objects::fault::number;
 use rules::rules_hold;
 use table::layout::Words;
 
 // The fault of form that the bytes alone show, 0 where there is none.
-fn read_number(r: Reading) -> u8
+// Kept: a number, and 0 for none: C reads it.
+fn read_number(r: Result<Received, Refusal>) -> u8
     ensures { result ≡ read_number r }
 {
     match r {
-        Reading::Refused {
-            fault,
-            offset: _,
-            headers: _,
-        } => number(fault),
-        Reading::Unfit {
-            fault,
-            sender: _,
-            headers: _,
-        } => number(fault),
-        Reading::Read {
-            message: _,
-            headers: _,
-        } => 0,
+        Err(Refusal::Misformed { fault, .. }) => u8::from(fault),
+        Err(Refusal::Unfit { fault, .. }) => u8::from(fault),
+        Ok(_) => 0,
     }
 }
 

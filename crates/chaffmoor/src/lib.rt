@@ -11,7 +11,6 @@ ghost use Rattle.answers.specs.Answers.{answer_number};
 ghost use Rattle.spec_calls.specs.Handling.{handled};
 ghost use Rattle.spec_checkpoint.specs.Restored.{written, restored};
 
-use answers::answer::number;
 use checkpoint_read::read_checkpoint;
 use checkpoint_write::write_checkpoint;
 use expiry::Closings;
@@ -20,6 +19,7 @@ use rosters::read_roster;
 use table::answer::roster_number;
 use table::layout::Words;
 
+// Kept: structs of numbers, and 0 for success and for no reply, here and below: C reads them.
 #[repr(C)]
 #[derive(Clone, Copy)]
 pub struct MessageReply {
@@ -67,7 +67,7 @@ pub extern "C" fn chaffmoor_handle(
     let r = handle(table, message, reply, time, period, closings);
     let answer = r.answer;
     MessageReply {
-        answer: number(answer),
+        answer: u8::from(answer),
         length: r.length,
         closed: r.closed,
     }
@@ -81,10 +81,12 @@ pub extern "C" fn chaffmoor_write_checkpoint(
 ) -> CheckpointWritten
     ensures { (result.answer ≡ (written (table_of table.now) checkpoint.old).answer) × (result.length ≡ (written (table_of table.now) checkpoint.old).length) × (checkpoint.new ≡ (written (table_of table.now) checkpoint.old).buffer) }
 {
-    let w = write_checkpoint(table, checkpoint);
-    CheckpointWritten {
-        answer: w.answer,
-        length: w.length,
+    match write_checkpoint(table, checkpoint) {
+        Ok(length) => CheckpointWritten { answer: 0, length },
+        Err(refusal) => CheckpointWritten {
+            answer: refusal.number(),
+            length: 0,
+        },
     }
 }
 
@@ -99,10 +101,16 @@ pub extern "C" fn chaffmoor_read_checkpoint(
 ) -> CheckpointRead
     ensures { record { answer = result.answer; table = table_of table.new; calls = result.calls; connections = result.connections } ≡ restored (eqb salvage 1) roster.now checkpoint.now }
 {
-    let f = read_checkpoint(table, salvage == 1, roster, checkpoint);
-    CheckpointRead {
-        answer: f.answer,
-        calls: f.calls,
-        connections: f.connections,
+    match read_checkpoint(table, salvage == 1, roster, checkpoint) {
+        Ok(d) => CheckpointRead {
+            answer: 0,
+            calls: d.calls,
+            connections: d.connections,
+        },
+        Err(e) => CheckpointRead {
+            answer: e.number(),
+            calls: 0,
+            connections: 0,
+        },
     }
 }

@@ -2,7 +2,7 @@
 // over words that are read from the highest byte on. Whoever wants a digest that was fixed before has to find bytes that
 // lead from one state of 256 bits to another, 64 bits a step: no way to do that is known. Nothing is promised of a
 // digest, any would do.
-ghost use Rattle.std.specs.Prelude.{◌+◌, ◌<◌, ◌≤◌, length};
+ghost use Rattle.std.specs.Prelude.{◌+◌, ◌≤◌, length};
 
 use numbers::big_endian::get32;
 
@@ -20,25 +20,18 @@ struct State {
     d: u64,
 }
 
-// The bits go up by n, the highest come in below.
-fn turned(x: u64, n: u32) -> u64
-    requires { (1 ≤ n) × (n < 64) }
-{
-    (x << n) | (x >> (64 - n))
-}
-
 fn next(v: State) -> State {
-    let a = std::num::wrapping_add_u64(v.a, v.b);
-    let b = turned(v.b, 13) ^ a;
-    let c = std::num::wrapping_add_u64(v.c, v.d);
-    let d = turned(v.d, 16) ^ c;
-    let e = std::num::wrapping_add_u64(turned(a, 32), d);
-    let f = std::num::wrapping_add_u64(c, b);
+    let a = v.a.wrapping_add(v.b);
+    let b = v.b.rotate_left(13) ^ a;
+    let c = v.c.wrapping_add(v.d);
+    let d = v.d.rotate_left(16) ^ c;
+    let e = a.rotate_left(32).wrapping_add(d);
+    let f = c.wrapping_add(b);
     State {
         a: e,
-        b: turned(b, 17) ^ f,
-        c: turned(f, 32),
-        d: turned(d, 21) ^ e,
+        b: b.rotate_left(17) ^ f,
+        c: f.rotate_left(32),
+        d: d.rotate_left(21) ^ e,
     }
 }
 
@@ -58,7 +51,7 @@ fn joined(v: State) -> u64 {
 fn word_at(s: &[u8], at: usize) -> u64
     requires { at + 8 ≤ length s.now }
 {
-    ((get32(s, at) as u64) << 32) | get32(s, at + 4) as u64
+    (u64::from(get32(s, at)) << 32) | u64::from(get32(s, at + 4))
 }
 
 // All bytes: the words from the first on, the last eight bytes once more, and how many bytes there are. What has fewer
@@ -69,10 +62,8 @@ fn with_bytes(v: State, s: &[u8]) -> State {
     }
     let words = s.len() / 8;
     let mut w = v;
-    let mut k: usize = 0;
-    while k < words {
+    for k in 0..words {
         w = with_word(w, word_at(s, 8 * k));
-        k += 1;
     }
     with_word(with_word(w, word_at(s, s.len() - 8)), s.len() as u64)
 }

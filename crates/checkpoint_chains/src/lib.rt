@@ -18,22 +18,16 @@ pub struct Factors {
     pub fourth: u32,
 }
 
-fn product(a: u32, b: u32) -> u64
-    ensures { result ≡ a * b }
-{
-    (a as u64) * (b as u64)
-}
-
 // One number made of three. Where two of them stay, the others' results stay apart: x * (2 * x + 1) has each value once.
 // It is no sum of what each bit adds, so that numbers in even steps do not meet; and its halves change places, since
 // none of its bits depends on a higher one of x.
 fn stirred(factor: u32, sum: u32, number: u32) -> u32
     ensures { result ≡ stirred_with factor sum number }
 {
-    let x = ((factor as u64 + sum as u64 + number as u64) % 4294967296) as u32;
-    let y = ((2 * (x as u64) + 1) % 4294967296) as u32;
-    let z = product(x, y) % 4294967296;
-    (z % 65536 * 65536 + z / 65536) as u32
+    let x = factor.wrapping_add(sum).wrapping_add(number);
+    let y = x.wrapping_mul(2).wrapping_add(1);
+    let z = x.wrapping_mul(y);
+    z % 65536 * 65536 + z / 65536
 }
 
 // Nothing is promised of the factors: any would do.
@@ -48,6 +42,7 @@ pub fn factors_of(s: &[u8]) -> Factors {
 }
 
 // A number more: one number made of several, for what is told apart by many.
+#[tactic(auto, unfolding(crate::specs::Spread::mixed_with))]
 pub fn mixed(f: Factors, sum: u32, number: u32) -> u32
     ensures { result ≡ mixed_with f sum number }
 {

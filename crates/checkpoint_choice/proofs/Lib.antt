@@ -1,9 +1,7 @@
 pub mod Walk
 pub mod StandIn
 pub mod Named
-pub mod Tests
-pub mod Names
 pub mod Best
-pub mod Bytewise
 pub mod Mixed
 pub mod LongWalk
+pub mod SamePointwise

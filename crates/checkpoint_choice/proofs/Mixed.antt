@@ -1,44 +1,30 @@
--- The chain of a record: its name's bytes mixed one after another, where they stand in the checkpoint, and records of
--- one pair and long Call ID, which are of one chain.
+-- The chain of a record: its name's bytes mixed one after another, and records of one pair and long Call ID, which are of
+-- one chain.
 -- Assumes nothing.
-use Prim.Native.Nat.{ℕ, ◌+◌, ◌*◌, ◌<◌, ◌≤◌, min}
-use native.Mathlib.Omega.{arith}
+use Prim.Native.Nat.{ℕ, ◌+◌, ◌<◌, ◌≤◌}
 use native.Mathlib.Numerals.{add-one}
 use mathlib.Core.Path.{◌≡◌}
 use mathlib.Core.List.{List}
 use mathlib.Core.Bool.{true}
 use lib.Dec.{eqb}
-use lib.ListN.{length, take, drop, get_or, length-take, drop_of_length-le}
-use lib.Seq.{drop-cons, get_or-take}
+use lib.ListN.{length, drop, get_or, drop_of_length-le}
+use lib.Seq.{drop-cons}
 use borrow.Author.Tests.{eqb-true}
 use Rattle.lists.proofs.Tests.{both}
 use Rattle.table.specs.Lists.{Ids}
 use Rattle.table.specs.Rules.{same_bytes, same_pair, same_long}
 use Rattle.table.proofs.SameBytes.{same_bytes_lem}
-use Rattle.table_words.proofs.NameBytes.{name_within}
-use Rattle.spec_checkpoint.specs.Layout.{call_record}
 use Rattle.checkpoint_chains.specs.declared.Factors.{Factors}
 use Rattle.checkpoint_chains.specs.Spread.{mixed_with}
 use Rattle.checkpoint_choice.specs.LongChain.{long_mixed, long_chain}
-use Rattle.checkpoint_choice.proofs.Names.{name_long}
 
-module _ (s : List ℕ) (i : ℕ) (inside : 4 + 55 * i + 55 ≤ length s) where
-  abbrev name : List ℕ
-  name = take 32 (drop (4 + 55 * i + 12) s)
+-- one byte more of a name
+pub mixed_turn : (f : Factors) (name : List ℕ) (k sum : ℕ) → k < length name
+    → long_mixed f sum (drop k name) ≡ long_mixed f (mixed_with f sum (get_or name k 0)) (drop (k + 1) name)
+mixed_turn f name k sum h = rw (add-one, drop-cons name k 0 h)
 
-  abbrev size : ℕ
-  size = (call_record s i).call.size
-
-  counted : length (take size name) ≡ min size 32
-  counted = rw (length-take size name, name_long s (4 + 55 * i + 12) (omega arith))
-
-  pub mixed_turn : (f : Factors) (k sum x : ℕ) → k < min size 32 → x ≡ get_or s (4 + 55 * i + 12 + k) 0
-      → long_mixed f sum (drop k (take size name)) ≡ long_mixed f (mixed_with f sum x) (drop (k + 1) (take size name))
-  mixed_turn f k sum x h e =
-      rw (add-one, drop-cons (take size name) k 0 (omega (arith, counted)), get_or-take size name k 0 (omega arith), ← name_within s (4 + 55 * i + 12) 32 k (omega arith), e)
-
-  pub mixed_ends : (f : Factors) (k sum : ℕ) → min size 32 ≤ k → long_mixed f sum (drop k (take size name)) ≡ sum
-  mixed_ends f k sum h = rw (drop_of_length-le (take size name) {i = k} (omega (arith, counted)))
+pub mixed_ends : (f : Factors) (name : List ℕ) (k sum : ℕ) → length name ≤ k → long_mixed f sum (drop k name) ≡ sum
+mixed_ends f name k sum h = rw (drop_of_length-le name {i = k} h)
 
 pub one_chain : (f : Factors) (c d : Ids) → same_long c d ≡ true → long_chain f c ≡ long_chain f d
 unfolding same_long long_chain

@@ -15,9 +15,8 @@ use Rattle.lists.specs.Below.{element_if, below}
 use Rattle.lists.proofs.Below.{count_none, count_turn}
 use Rattle.table.specs.Lists.{Ids, ids_of, Held}
 use Rattle.spec_changes.specs.Connections.{is_under}
-use Rattle.spec_checkpoint.specs.Layout.{Slotted, call_record, held_at_byte}
+use Rattle.spec_checkpoint.specs.Layout.{Slotted, calls_in, connections_in, call_record, held_at_byte}
 use Rattle.spec_checkpoint.specs.Salvage.{named_by}
-use Rattle.checkpoint_choice.specs.Sized.{Sized}
 use Rattle.checkpoint_choice.specs.Chained.{has_short, shares_short, is_first, stand_in, stand_in_for, stand_in_named, counted}
 use Rattle.checkpoint_choice.proofs.StandIn.{has_is, stand_in_within, stand_in_some, stand_in_none, stand_in_only, stand_in_own}
 
@@ -30,9 +29,9 @@ named_turn : (s : List ℕ) (base k n r : ℕ) (c : Ids) → n ≡ count_if (is_
 unfolding element_if
 named_turn s base k n r c e h = count_turn (λ j. held_at_byte s (base + 18 * j) ∷ []) (is_under c) k n r true (held_at_byte s (base + 18 * k)) refl e h
 
-named_all : (s : List ℕ) (n k m : ℕ) (r : Slotted) → Sized s n k → m ≡ count_if (is_under (ids_of r.call)) (records_from s (4 + 55 * n) k) → m ≡ named_by s r
+named_all : (s : List ℕ) (k m : ℕ) (r : Slotted) → k ≡ connections_in s → m ≡ count_if (is_under (ids_of r.call)) (records_from s (4 + 55 * calls_in s) k) → m ≡ named_by s r
 unfolding named_by
-named_all s n k m r z e = rw (z.calls, z.connections) at e
+named_all s k m r z e = rw z at e
 
 -- ---- one more connection counted
 
@@ -44,9 +43,11 @@ counted_length counts e = by (eqb e 0)
     by true = refl
     by false = length-set counts (e - 1) (get_or counts (e - 1) 0 + 1)
 
-pub counted_some : (counts : List ℕ) (e : ℕ) → (e ≡ 0 → ⊥) → set counts (e - 1) (get_or counts (e - 1) 0 + 1) ≡ counted counts e
+pub counted_some : (counts : List ℕ) (i : ℕ) → set counts i (get_or counts i 0 + 1) ≡ counted counts (i + 1)
 unfolding counted
-counted_some counts e some = rw (ne_eqb e 0 some)
+counted_some counts i =
+    let here : i + 1 - 1 ≡ i = omega arith in
+    rw (ne_eqb (i + 1) 0 (λ e. omega arith), here)
 
 counted_here : (counts : List ℕ) (e j : ℕ) → (e ≡ 0 → ⊥) → j ≡ e - 1 → j < length counts → get_or (counted counts e) j 0 ≡ get_or counts j 0 + 1
 unfolding counted
@@ -116,8 +117,8 @@ tallied_turn s base n k counts room h j l f =
 abbrev pub Named : List ℕ → ℕ → List ℕ → Type 0
 Named s n counts = (j : ℕ) → j < n → is_first s j ≡ true → get_or counts j 0 ≡ named_by s (call_record s j)
 
-pub tallied_all : (s : List ℕ) (n k m : ℕ) (counts : List ℕ) → Sized s n k → Tallied s (4 + 55 * n) m k counts → Named s m counts
-tallied_all s n k m counts z h j l f = named_all s n k (get_or counts j 0) (call_record s j) z (h j l f)
+pub tallied_all : (s : List ℕ) (k m : ℕ) (counts : List ℕ) → k ≡ connections_in s → Tallied s (4 + 55 * calls_in s) m k counts → Named s m counts
+tallied_all s k m counts z h j l f = named_all s k (get_or counts j 0) (call_record s j) z (h j l f)
 
 -- records that have the same short ID and pair are named by the same connections
 same_named : (s : List ℕ) (i k : ℕ) → shares_short s i k ≡ true → named_by s (call_record s k) ≡ named_by s (call_record s i)

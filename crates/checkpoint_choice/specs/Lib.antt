@@ -1,4 +1,3 @@
-pub mod Sized
 pub mod Ranked
 pub mod Chained
 pub mod LongChain

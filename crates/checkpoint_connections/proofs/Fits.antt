@@ -34,7 +34,7 @@ use Rattle.spec_changes.proofs.Valid.{ids_named}
 use Rattle.spec_checkpoint.specs.Salvage.{connection_fits}
 use Rattle.spec_checkpoint.proofs.AllKept.{one_place}
 use Rattle.spec_checkpoint.proofs.Fours.{at_most, rows_bound, one_call, elsewhere, under_none, standalone_none, call_sender}
-use Rattle.checkpoint_connections.specs.Cells.{is_call_in, CallFound}
+use Rattle.checkpoint_connections.specs.Cells.{is_call_in, CallIn}
 
 -- where one place alone has what passes a test
 only_at : {A : Type 0} (f : ℕ → List A) (p : A → Bool) (i n : ℕ) → i < n → ((j : ℕ) → j < n → (j ≡ i → ⊥) → count_if p (f j) ≡ 0)
@@ -162,18 +162,18 @@ module _ (t : Table) (x : Held) where
             )
 
   -- where its call is found: full, or with room
-  module _ (i : ℕ) (c : CallFound t x i) (inside : i < slots) where
+  module _ (i : ℕ) (c : CallIn t x i) where
     pub unfit_there : 4 ≤ count_if (λ y. true) (held_in (call_four (call_at t i))) → connection_fits t x ≡ false
-    unfit_there h = unfit_full (omega (arith, all_own i inside (c.used inside) (c.own inside), slot_within i inside (c.used inside) (same_four x)))
+    unfit_there h = unfit_full (omega (arith, all_own i c.inside c.used c.own, slot_within i c.inside c.used (same_four x)))
 
     module _ (rules : rules_hold t ≡ true) where
       pub fits_found : count_if (λ y. true) (held_in (call_four (call_at t i))) < 4 → has (same_connection x) (held t) ≡ false → connection_fits t x ≡ true
-      fits_found = fits_there i inside (c.used inside) (c.own inside) (rules_kept t rules)
+      fits_found = fits_there i c.inside c.used c.own (rules_kept t rules)
 
       pub added_found : added_under t i x.lsp ≡ added t x
       added_found =
           let k = rules_kept t rules in
-          added_under_lem t x i (ne_eqb x.call 0 (named i inside (c.used inside) (c.own inside) k)) (slot_is i inside (c.used inside) (c.own inside) k)
+          added_under_lem t x i (ne_eqb x.call 0 (named i c.inside c.used c.own k)) (slot_is i c.inside c.used c.own k)
 
   -- ---- with Call ID 0
 

@@ -7,10 +7,10 @@ use native.Mathlib.Omega.{arith}
 use mathlib.Core.Path.{◌≡◌, refl, sym, ap, ◌∙◌}
 use mathlib.Core.List.{List, []}
 use mathlib.Core.Bool.{Bool, true, false, ◌&&◌, true≢false}
-use lib.Dec.{eqb}
+use lib.Dec.{eqb, ltb}
 use lib.ListN.{length, get_or, set, length-set, replicate, length-replicate}
 use lib.Seq.{get_or-set_same, get_or-set_other}
-use borrow.Author.Tests.{eq-eqb, eqb-true, eqb-false}
+use borrow.Author.Tests.{eq-eqb, eqb-true, eqb-false, ltb-true, ltb-false}
 use Rattle.numbers.specs.BigEndian.{Bytes}
 use Rattle.lists.specs.Count.{bit, count_if, has}
 use Rattle.lists.specs.Below.{below}
@@ -32,7 +32,7 @@ use Rattle.spec_checkpoint.specs.Salvage.{connection_fits}
 use Rattle.spec_checkpoint.proofs.Salvaged.{may_add, bytes_fit}
 use Rattle.checkpoint_chains.specs.declared.Factors.{Factors}
 use Rattle.checkpoint_chains.specs.Spread.{spread_over}
-use Rattle.checkpoint_connections.specs.Cells.{is_filled, FirstFree, ShownFrom, call_place, is_call_in, CallsInCells, CallFound, lsp_place, HeldInCells, SoughtIn, TableInCells}
+use Rattle.checkpoint_connections.specs.Cells.{is_filled, FirstFree, ShownFrom, call_place, is_call_in, CallsInCells, CallIn, lsp_place, HeldInCells, CellFor, TableInCells}
 use Rattle.checkpoint_connections.proofs.Cells.{set_most, none_filled, shown_kept, shown_new, shown_more, Passed, passed_free, passed_all}
 use Rattle.checkpoint_connections.proofs.Fits.{call_in, call_out}
 
@@ -102,17 +102,23 @@ module _ (f : Factors) (t : Table) (cells : List ℕ) (i : ℕ) (k : CallsInCell
           (k.shown x (omega (arith, counts (is_call_of x), used (is_call_of x), none))))
 
 -- a search for a connection's call: it is where a cell shows it
-pub call_there : (t : Table) (x : Held) (i : ℕ) → has (is_call_in x i) (entries t) ≡ true → CallFound t x i
-call_there t x i h = record {
-  used = λ l. (both (is_used t.occupied i) (is_under (ids_of (call_at t i)) x) (sym (call_in t x i l) ∙ h)).0;
-  own = λ l. (both (is_used t.occupied i) (is_under (ids_of (call_at t i)) x) (sym (call_in t x i l) ∙ h)).1;
-  none = λ l. absurd (true≢false (sym h ∙ call_out t x i l));
-}
+pub call_there : (t : Table) (x : Held) (i : ℕ) → has (is_call_in x i) (entries t) ≡ true → CallIn t x i
+call_there t x i h = record { inside = inside; used = own.0; own = own.1 }
+  where
+    inside : i < slots
+    inside = ltb-true i slots (by (ltb i slots) refl)
+      where
+        by : (b : Bool) → ltb i slots ≡ b → ltb i slots ≡ true
+        by true q = q
+        by false q = absurd (true≢false (sym h ∙ call_out t x i (ltb-false i slots q)))
+
+    own : (is_used t.occupied i ≡ true) × (is_under (ids_of (call_at t i)) x ≡ true)
+    own = both (is_used t.occupied i) (is_under (ids_of (call_at t i)) x) (sym (call_in t x i inside) ∙ h)
 
 -- and nowhere where none does
 pub call_nowhere : (f : Factors) (t : Table) (x : Held) (cells : List ℕ) (m j : ℕ) → CallsInCells f (entries t) cells slots → m ≡ call_place f x
-    → Passed (λ v. has (is_call_in x (v - 1)) (entries t)) cells m j → get_or cells j 0 ≡ 0 → CallFound t x slots
-call_nowhere f t x cells m j k e p free = record { used = λ l. let z : ⊥ = omega arith in absurd z; own = λ l. let z : ⊥ = omega arith in absurd z; none = λ l. by (has (is_call_of x) (entries t)) refl }
+    → Passed (λ v. has (is_call_in x (v - 1)) (entries t)) cells m j → get_or cells j 0 ≡ 0 → has (is_call_of x) (entries t) ≡ false
+call_nowhere f t x cells m j k e p free = by (has (is_call_of x) (entries t)) refl
   where
     by : (b : Bool) → has (is_call_of x) (entries t) ≡ b → b ≡ false
     by true h = absurd (passed_all (λ v. has (is_call_in x (v - 1)) (entries t)) cells m j p free (rw e (k.shown x (has_true (is_call_of x) (entries t) h))))
@@ -131,23 +137,19 @@ held_none f s = record {
 
 -- a search for a connection: it is held where a cell shows it
 pub held_there : (f : Factors) (s : List ℕ) (l : List Held) (cells : List ℕ) (x : Lsp) (j : ℕ) → HeldInCells f s l cells → (get_or cells j 0 ≡ 0 → ⊥)
-    → is_lsp x (connection_record s (get_or cells j 0 - 1)) ≡ true → SoughtIn f l cells x (record { held = true; at = j })
-held_there f s l cells x j k some h = record {
-  held = sym (true_has (is_lsp x) l (rw (lsp_equal x (connection_record s (get_or cells j 0 - 1)).lsp h) (k.only j some)));
-  free = λ e. absurd (true≢false e);
-  inside = λ e. absurd (true≢false e);
-}
+    → is_lsp x (connection_record s (get_or cells j 0 - 1)) ≡ true → has (is_lsp x) l ≡ true
+held_there f s l cells x j k some h = true_has (is_lsp x) l (rw (lsp_equal x (connection_record s (get_or cells j 0 - 1)).lsp h) (k.only j some))
 
 -- and not held where none does
 pub held_nowhere : (f : Factors) (s : List ℕ) (l : List Held) (cells : List ℕ) (x : Lsp) (m j : ℕ) → HeldInCells f s l cells → m ≡ lsp_place f x
-    → Passed (λ v. is_lsp x (connection_record s (v - 1))) cells m j → get_or cells j 0 ≡ 0 → j < 3072 → SoughtIn f l cells x (record { held = false; at = j })
+    → Passed (λ v. is_lsp x (connection_record s (v - 1))) cells m j → get_or cells j 0 ≡ 0 → j < 3072 → CellFor f l cells x j
 held_nowhere f s l cells x m j k e p free inside = record {
-  held = by (has (is_lsp x) l) refl;
-  free = λ q. rw (← e) (passed_free (λ v. is_lsp x (connection_record s (v - 1))) cells m j p free);
-  inside = λ q. inside;
+  new = by (has (is_lsp x) l) refl;
+  free = rw (← e) (passed_free (λ v. is_lsp x (connection_record s (v - 1))) cells m j p free);
+  inside = inside;
 }
   where
-    by : (b : Bool) → has (is_lsp x) l ≡ b → false ≡ b
+    by : (b : Bool) → has (is_lsp x) l ≡ b → b ≡ false
     by true h = absurd (passed_all (λ v. is_lsp x (connection_record s (v - 1))) cells m j p free (rw e (k.shown x (has_true (is_lsp x) l h))))
     by false h = refl
 

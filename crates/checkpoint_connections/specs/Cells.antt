@@ -1,7 +1,7 @@
 -- What the table holds, in cells: each call and each connection stands in the first cell that was free from its own place
 -- on. So the cells from that place on, up to a free one, are all that have to be looked at. Words of contracts only: no
 -- rule cites these.
-use Rattle.std.specs.Prelude.{ℕ, ◌+◌, ◌*◌, ◌-◌, ◌<◌, ◌≤◌, ◌≡◌, List, Bool, true, false, not, ◌&&◌, eqb, length, get_or}
+use Rattle.std.specs.Prelude.{ℕ, Option, MatchOption, ◌+◌, ◌*◌, ◌-◌, ◌<◌, ◌≤◌, ◌≡◌, List, Bool, true, false, not, ◌&&◌, eqb, length, get_or}
 use Rattle.lists.specs.Count.{count_if, has}
 use Rattle.table.specs.Table.{Table}
 use Rattle.table.specs.Total.{slots}
@@ -13,7 +13,6 @@ use Rattle.spec_changes.specs.Connections.{is_under, is_call_of}
 use Rattle.spec_checkpoint.specs.Layout.{connections_in, connection_record}
 use Rattle.checkpoint_chains.specs.declared.Factors.{Factors}
 use Rattle.checkpoint_chains.specs.Spread.{spread_over}
-use Rattle.checkpoint_connections.specs.declared.connections.Sought as code
 
 -- ---- cells
 
@@ -54,11 +53,15 @@ pub record CallsInCells (f : Factors) (calls : List Entry) (cells : List ℕ) (n
   pub most : count_if is_filled cells ≤ n
   pub shown : (x : Held) → 0 < count_if (is_call_of x) calls → ShownFrom (λ v. has (is_call_in x (v - 1)) calls) cells (call_place f x)
 
--- the slot of a connection's call; a number that is no slot where the call is not open
-pub record CallFound (t : Table) (x : Held) (i : ℕ) : Type 0 where
-  pub used : i < slots → is_used t.occupied i ≡ true
-  pub own : i < slots → is_under (ids_of (call_at t i)) x ≡ true
-  pub none : slots ≤ i → has (is_call_of x) (entries t) ≡ false
+-- a connection's call is open in slot i
+pub record CallIn (t : Table) (x : Held) (i : ℕ) : Type 0 where
+  pub inside : i < slots
+  pub used : is_used t.occupied i ≡ true
+  pub own : is_under (ids_of (call_at t i)) x ≡ true
+
+-- the slot of a connection's call; none where the call is not open
+abbrev pub CallFound : Table → Held → Option ℕ → Type 0
+CallFound t x r = MatchOption r (has (is_call_of x) (entries t) ≡ false) (λ i. CallIn t x i)
 
 -- ---- connections: a cell has the number of a checkpoint's record, counted from 1
 
@@ -73,11 +76,15 @@ pub record HeldInCells (f : Factors) (s : List ℕ) (l : List Held) (cells : Lis
   pub only : (j : ℕ) → (get_or cells j 0 ≡ 0 → ⊥) → 0 < count_if (is_lsp (connection_record s (get_or cells j 0 - 1)).lsp) l
   pub shown : (x : Lsp) → 0 < count_if (is_lsp x) l → ShownFrom (λ v. is_lsp x (connection_record s (v - 1))) cells (lsp_place f x)
 
--- whether a connection is held, and the cell for it where it is not
-pub record SoughtIn (f : Factors) (l : List Held) (cells : List ℕ) (x : Lsp) (r : code.Sought) : Type 0 where
-  pub held : r.held ≡ has (is_lsp x) l
-  pub free : r.held ≡ false → FirstFree cells (lsp_place f x) r.at
-  pub inside : r.held ≡ false → r.at < 3072
+-- a connection is not held, and cell j is the one for it
+pub record CellFor (f : Factors) (l : List Held) (cells : List ℕ) (x : Lsp) (j : ℕ) : Type 0 where
+  pub new : has (is_lsp x) l ≡ false
+  pub free : FirstFree cells (lsp_place f x) j
+  pub inside : j < 3072
+
+-- the cell for a connection; none where it is held
+abbrev pub SoughtIn : Factors → List Held → List ℕ → Lsp → Option ℕ → Type 0
+SoughtIn f l cells x r = MatchOption r (has (is_lsp x) l ≡ true) (λ j. CellFor f l cells x j)
 
 -- a table that keeps the rules, its calls and its connections in cells
 pub record TableInCells (f : Factors) (s call_cells held_cells : List ℕ) (t : Table) : Type 0 where

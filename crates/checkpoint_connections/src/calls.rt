@@ -11,7 +11,6 @@ ghost use Rattle.checkpoint_connections.specs.Cells.{is_filled, FirstFree, is_ca
 
 use checkpoint_chains::{Factors, spread};
 use find_connection::under::is_named;
-use lists::to_usize;
 use messages::message::Connection;
 use occupancy::{is_used, used_below};
 use table::layout::{SLOTS, Words};
@@ -21,14 +20,15 @@ pub type CallCells = [u8; 2304];
 
 // The first free cell from a place on. There is one: at most 200 are filled.
 fn free_cell(cells: &CallCells, place: usize) -> usize
-    requires { (length cells.now ≡ 2304) × (place < 2048) × (count_if is_filled cells.now ≤ slots) }
+    requires { (place < 2048) × (count_if is_filled cells.now ≤ slots) }
     ensures { FirstFree cells.now place result × (result < 2304) }
 {
-    let mut j = place;
-    while cells[j] != 0 {
-        j += 1;
+    for j in place..2304 {
+        if cells[j] == 0 {
+            return j;
+        }
     }
-    j
+    unreachable!()
 }
 
 // Puts a slot's call behind those of the slots before it. Whoever asks says why the slot is one of the table's.
@@ -49,10 +49,8 @@ pub fn note_calls(t: &Words, f: Factors, cells: &mut CallCells)
     ensures { CallsInCells f (entries (table_of t.now)) cells.new slots }
 {
     let n = used_below(t);
-    let mut i: usize = 0;
-    while i < n {
+    for i in 0..n {
         note_slot(t, f, cells, i);
-        i += 1;
     }
 }
 
@@ -67,18 +65,20 @@ fn is_call_of(t: &Words, slot: usize, x: Connection) -> bool
     used & is_named(t, slot, x.call, x.lsp.endpoint, x.lsp.sender)
 }
 
-// The slot of a connection's call, and 200 where it is not open.
-pub fn find_call(t: &Words, f: Factors, cells: &CallCells, x: Connection) -> usize
+// The slot of a connection's call, where that is open.
+pub fn find_call(t: &Words, f: Factors, cells: &CallCells, x: Connection) -> Option<usize>
     requires { CallsInCells f (entries (table_of t.now)) cells.now slots }
     ensures { CallFound (table_of t.now) (held_by x) result }
 {
-    let mut j = spread(f, x.lsp.endpoint, x.lsp.sender, x.call.0 as u32, 0);
-    while cells[j] != 0 {
-        let slot = to_usize(cells[j]) - 1;
-        if is_call_of(t, slot, x) {
-            return slot;
+    let place = spread(f, x.lsp.endpoint, x.lsp.sender, u32::from(x.call.0), 0);
+    for j in place..2304 {
+        if cells[j] == 0 {
+            return None;
         }
-        j += 1;
+        let slot = usize::from(cells[j]) - 1;
+        if is_call_of(t, slot, x) {
+            return Some(slot);
+        }
     }
-    SLOTS
+    unreachable!()
 }

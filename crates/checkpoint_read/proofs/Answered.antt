@@ -9,11 +9,10 @@ use lib.Dec.{eqb}
 use lib.ListN.{length, replicate}
 use borrow.Author.Tests.{lt-ltb, le-ltb, eq-eqb, ne_eqb}
 use Rattle.numbers.specs.BigEndian.{Bytes}
-use Rattle.table.specs.declared.answer.RosterAnswer.{RosterAnswer}
 use Rattle.table.specs.Table.{Table}
 use Rattle.table.specs.Lists.{entries, held}
 use Rattle.table.specs.Rules.{rules_hold}
-use Rattle.table.specs.Roster.{roster_number, roster_answer, fresh_table, table_for, form_in}
+use Rattle.table.specs.Roster.{RosterAnswer, roster_number, roster_answer, fresh_table, table_for, form_in}
 use Rattle.table.proofs.Fresh.{fresh_holds, fresh_held}
 use Rattle.spec_changes.specs.Shape.{Shape}
 use Rattle.spec_changes.proofs.Fresh.{fresh_shape}
@@ -21,7 +20,7 @@ use Rattle.spec_promises.proofs.Demand3 as promises
 use Rattle.spec_checkpoint.specs.Layout.{calls_in, connections_in, checkpoint_size}
 use Rattle.spec_checkpoint.specs.Salvage.{with_calls, with_connections, salvaged}
 use Rattle.spec_checkpoint.specs.Restored.{Restored, bad_size, unrestored, from_checkpoint, drops_none, restored}
-use Rattle.checkpoint_choice.specs.Sized.{Sized}
+use Rattle.checkpoint_read.proofs.Counted.{Sized}
 use Rattle.checkpoint_read.specs.Read.{read_into}
 
 pub read_is : (fresh t u : Table) (s : List ℕ) (n k a b : ℕ) → Sized s n k → t ≡ with_calls fresh s n → u ≡ with_connections t s k

@@ -1,6 +1,6 @@
 -- One record more: a call placed where step 2 keeps it and it fits, a connection added where it fits.
 -- Assumes nothing.
-use Prim.Native.Nat.{ℕ, zero, suc, ◌+◌, ◌*◌}
+use Prim.Native.Nat.{ℕ, zero, suc, ◌+◌}
 use native.Mathlib.Numerals.{add-one}
 use native.Mathlib.Omega.{arith}
 use mathlib.Core.Path.{◌≡◌, refl, ap, ◌∙◌}
@@ -18,14 +18,13 @@ use Rattle.table.specs.Rules.{holds, slots_within_total, rules_hold}
 use Rattle.spec_changes.specs.Shape.{Shape}
 use Rattle.spec_changes.specs.Connections.{added}
 use Rattle.spec_changes.proofs.Tables.{added_words, added_form}
-use Rattle.spec_checkpoint.specs.Layout.{call_record, connection_record, held_at_byte}
+use Rattle.spec_checkpoint.specs.Layout.{call_record, connection_record}
 use Rattle.spec_checkpoint.specs.Salvage.{placed, kept_by_long_id, call_fits, call_kept, with_calls, connection_fits, connection_kept, with_connections}
 use Rattle.spec_checkpoint.proofs.Part.{record_bare, placed_shape, placed_held}
 use Rattle.spec_checkpoint.proofs.Salvaged.{kept_inside}
 use Rattle.checkpoint_chains.specs.declared.Factors.{Factors}
 use Rattle.checkpoint_connections.specs.Cells.{CallsInCells, TableInCells}
 use Rattle.checkpoint_connections.proofs.InCells.{held_none}
-use Rattle.checkpoint_choice.specs.Sized.{Sized}
 
 -- ---- calls
 
@@ -96,10 +95,10 @@ calls_bare fresh s h e i = no_held_lem (held (with_calls fresh s i)) ((calls_hel
 pub cells_start : (f : Factors) (s cells : List ℕ) (t : Table) → Shape t → rules_hold t ≡ true → CallsInCells f (entries t) cells slots → held t ≡ [] → TableInCells f s cells (replicate 3072 0) t
 cells_start f s cells t h r c e = record { shape = h; rules = r; calls = c; held = rw e (held_none f s) }
 
-pub connections_turn : (start : Table) (s : List ℕ) (n m k : ℕ) (t u : Table) (x : Held) → Sized s n m → t ≡ with_connections start s k
-    → x ≡ held_at_byte s (4 + 55 * n + 18 * k) → u ≡ cond (connection_fits t x) (added t x) t → u ≡ with_connections start s (k + 1)
+pub connections_turn : (start : Table) (s : List ℕ) (k : ℕ) (t u : Table) → t ≡ with_connections start s k
+    → u ≡ cond (connection_fits t (connection_record s k)) (added t (connection_record s k)) t → u ≡ with_connections start s (k + 1)
 unfolding with_connections
-connections_turn start s n m k t u x z e h q = rw (add-one k) (rw (e, h, z.calls) at q)
+connections_turn start s k t u e q = rw (add-one k) (rw e at q)
 
 -- a connection marks no slot, so that the marks stay within the total
 connection_within : (t : Table) (x : Held) → holds slots_within_total t ≡ true → (b : Bool) → holds slots_within_total (cond b (added t x) t) ≡ true

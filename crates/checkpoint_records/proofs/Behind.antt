@@ -1,13 +1,14 @@
 -- A writer behind another one, and the parts of a call's record one behind the other.
 -- Assumes nothing.
-use Prim.Native.Nat.{ℕ, ◌+◌, ◌≤◌, ◌<◌}
+use Prim.Native.Nat.{ℕ, ◌+◌, ◌-◌, ◌≤◌, ◌<◌, min}
 use native.Mathlib.Nat.{zero-add}
 use native.Mathlib.Numerals.{add-one}
 use native.Mathlib.Omega.{arith}
 use mathlib.Core.Path.{◌≡◌, sym, ◌∙◌}
 use mathlib.Core.List.{List, ◌++◌, append_assoc, append-nil}
 use lib.ListN.{length, take, drop, get_or, set, replicate, length-append, length-drop}
-use lib.Seq.{paste, paste-suc, take_all, length-take-le}
+use lib.Seq.{paste, paste-suc, take_all, take-take, length-take-le}
+use Rattle.std.proofs.lemmas.List.{take_min}
 use Rattle.numbers.specs.Buffer.{at_front}
 use Rattle.numbers.proofs.Buffer.{back_at, part_at, next}
 use Rattle.table.specs.Total.{slots}
@@ -41,6 +42,14 @@ name_put x l out h e = record { count = sym h; is = e ∙ rw (zero-add, take_all
 pub name_whole : (s : List ℕ) (at : ℕ) → at + 32 ≤ length s → at_front (take 32 (drop at s)) (replicate 32 0) ≡ take 32 (drop at s)
 unfolding at_front
 name_whole s at h = rw (length-take-le 32 (drop at s) (simp length-drop (omega arith)), append-nil)
+
+-- the bytes of a name that count, of which there are at most 32
+pub name_taken : (s : List ℕ) (at size e : ℕ) → at + 32 ≤ length s → e ≡ at + min size 32 → take (e - at) (drop at s) ≡ take size (take 32 (drop at s))
+name_taken s at size e h q =
+    let n : e - at ≡ min size 32 = omega arith in
+    rw n
+    (sym (take-take (min size 32) 32 (drop at s) (omega arith))
+    ∙ (rw (length-take-le 32 (drop at s) (simp length-drop (omega arith))) at (take_min size (take 32 (drop at s)))))
 
 -- a slot has a name of 32 bytes
 pub name_long : (w : List ℕ) (i : ℕ) → i < slots → length (call_at (table_of w) i).name ≡ 32

@@ -1,5 +1,8 @@
 // The records of a checkpoint (request A13), each by itself: written, and read.
 #![tactic(auto)]
 
+pub mod call;
+pub mod calls;
+pub mod checkpoint;
 pub mod read;
 pub mod write;

@@ -51,10 +51,8 @@ fn put_name(out: &mut [u8], t: &Words, i: usize) -> usize
     requires { (i < slots) × (32 ≤ length out.old) }
     ensures { (result ≡ 32) × Put (call_at (table_of t.now) i).name result out.old out.new }
 {
-    let mut k: usize = 0;
-    while k < 32 {
+    for k in 0..32 {
         out[k] = name_byte(t, i, k);
-        k += 1;
     }
     32
 }

@@ -1,6 +1,6 @@
 -- A call's record and the call that it is: when its numbers are those of a call, and its IDs.
 -- Assumes nothing.
-use Prim.Native.Nat.{ℕ, zero, suc, ◌+◌, ◌-◌, ◌*◌, ◌/◌, ◌%◌, ◌≤◌, ◌<◌}
+use Prim.Native.Nat.{ℕ, zero, suc, ◌+◌, ◌-◌, ◌*◌, ◌%◌, ◌≤◌, ◌<◌}
 use native.Mathlib.Nat.{add_assoc}
 use native.Mathlib.Omega.{arith}
 use mathlib.Core.Path.{◌≡◌, refl, sym}
@@ -11,9 +11,8 @@ use lib.Dec.{ltb, leb, eqb}
 use lib.ListN.{get_or, take, drop}
 use lib.Seq.{get_or-take, get_or-drop}
 use borrow.Author.Tests.{eqb-false, eq-eqb, ne_eqb, lt-ltb, le-leb}
-use Rattle.numbers.specs.BigEndian.{Bytes, be16_at, be24_at, be32_at}
+use Rattle.numbers.specs.BigEndian.{be16_at}
 use Rattle.numbers.specs.Search.{zeros_at}
-use Rattle.numbers.proofs.BigEndian.{be24_bound}
 use Rattle.lists.specs.Below.{every_below}
 use Rattle.lists.proofs.Tests.{both}
 use Rattle.table.specs.Rules.{valid_ids, place_clear, place_valid, request_tidy, call_free_clear}
@@ -30,7 +29,7 @@ zeros_part s at m k (suc n) h = rw (get_or-take m (drop at s) k 0 (omega arith),
 -- ---- a record's request
 
 -- a mark of one bit, an epoch of 24
-mark_decides : (made epoch identifier : ℕ) → made < 2 → epoch < 0x1000000
+pub mark_decides : (made epoch identifier : ℕ) → made < 2 → epoch < 0x1000000
     → (eqb made 1 || (eqb epoch 0 && eqb identifier 0)) ≡ cond (eqb made 1) (ltb epoch 0x1000000) (eqb made 0 && eqb epoch 0 && eqb identifier 0)
 mark_decides made epoch identifier m e = by (eqb made 1) refl
   where
@@ -38,11 +37,6 @@ mark_decides made epoch identifier m e = by (eqb made 1) refl
         → (b || (eqb epoch 0 && eqb identifier 0)) ≡ cond b (ltb epoch 0x1000000) (eqb made 0 && eqb epoch 0 && eqb identifier 0)
     by true q = sym (lt-ltb epoch 0x1000000 e)
     by false q = let none : made ≢ 1 = eqb-false made 1 q in rw (eq-eqb made 0 (omega arith))
-
-pub request_is : (s : List ℕ) (i mark : ℕ) → mark ≡ get_or s (4 + 55 * i + 11) 0 → mark ≤ 255 → Bytes s
-    → (eqb (mark / 128) 1 || (eqb (be24_at s (4 + 55 * i + 48)) 0 && eqb (be32_at s (4 + 55 * i + 51)) 0)) ≡ request_tidy (call_record s i).call
-request_is s i mark is most bytes =
-    rw (← is) (mark_decides (mark / 128) (be24_at s (4 + 55 * i + 48)) (be32_at s (4 + 55 * i + 51)) (omega arith) (be24_bound s (4 + 55 * i + 48) bytes))
 
 -- ---- a record's numbers
 
@@ -66,13 +60,13 @@ module _ (s : List ℕ) (i size : ℕ) (is : size ≡ get_or s (4 + 55 * i + 11)
 
   pub tidy_is : (request : Bool) → request ≡ request_tidy (call_record s i).call → 0 < size → size ≤ 32 → be16_at s (4 + 55 * i + 1) < 0x10000
       → (not (eqb (be16_at s (4 + 55 * i + 1)) 0)
-      && not (eqb (get_or s (4 + 55 * i + 11 + size) 0) 0)
+      && not (eqb (get_or s (4 + 55 * i + 12 + size - 1) 0) 0)
       && zeros_at s (4 + 55 * i + 12 + size) (32 - size)
       && request)
       ≡ is_tidy (call_record s i).call
   unfolding valid_ids call_free_clear every_below place_clear place_valid
   tidy_is request r some most id =
-      let last : 4 + 55 * i + 11 + size ≡ 4 + 55 * i + 12 + (size - 1) = omega arith in
+      let last : 4 + 55 * i + 12 + size - 1 ≡ 4 + 55 * i + 12 + (size - 1) = omega arith in
       rw (
         r,
         ← is,
@@ -84,5 +78,5 @@ module _ (s : List ℕ) (i size : ℕ) (is : size ≡ get_or s (4 + 55 * i + 11)
         ← last,
         zeros_part s (4 + 55 * i + 12) 32 size (32 - size) (omega arith),
       )
-      (in_order (not (eqb (be16_at s (4 + 55 * i + 1)) 0)) (not (eqb (get_or s (4 + 55 * i + 11 + size) 0) 0)) (zeros_at s (4 + 55 * i + 12 + size) (32 - size))
+      (in_order (not (eqb (be16_at s (4 + 55 * i + 1)) 0)) (not (eqb (get_or s (4 + 55 * i + 12 + size - 1) 0) 0)) (zeros_at s (4 + 55 * i + 12 + size) (32 - size))
       (request_tidy (call_record s i).call))

@@ -1,5 +1,4 @@
-// One call of a checkpoint: whether it can stand in the table, alone and beside others. The records lie within the
-// checkpoint: its size has been tested.
+// One call of a checkpoint: whether it can stand in the table, alone and beside others.
 ghost use Rattle.std.specs.Prelude.{◌≡◌, List, cond, true, false, ◌&&◌, ℕ, ◌+◌, ◌*◌, ◌≤◌, ◌<◌, length, replicate};
 ghost use Rattle.lists.specs.Count.{has};
 ghost use Rattle.objects.specs.Part.{Within};
@@ -9,16 +8,16 @@ ghost use Rattle.table.specs.Lists.{ids_of, entries};
 ghost use Rattle.table.specs.Rules.{same_request, valid_ids, request_tidy, call_free_clear, rules_hold};
 ghost use Rattle.table.specs.Words.{table_of};
 ghost use Rattle.spec_calls.specs.CallRules.{ids_in, short_in_use};
-ghost use Rattle.spec_checkpoint.specs.Layout.{record_entry, call_record};
+ghost use Rattle.spec_checkpoint.specs.Layout.{record_entry};
 ghost use Rattle.spec_checkpoint.specs.Salvage.{placed, sound_alone, call_fits};
+ghost use Rattle.checkpoint_records.specs.Record.{read_of};
 
-use checkpoint_records::read::{record_slot, record_words};
+use checkpoint_records::call::CallRecord;
 use expiry::raise_time;
+use find_call::made::find_made;
 use find_call::request::look_up;
 use find_call::share::{listing_of, share_used_up};
-use lists::to_usize;
 use messages::message::CallRequest;
-use numbers::big_endian::{get16, get24, get32};
 use numbers::search::zeros;
 use objects::fields::{CallId, MessageId, Part};
 use occupancy::{is_used, mark_used, used_below};
@@ -28,58 +27,56 @@ use table_words::calls::{call_head, put_slot};
 use table_words::head::form;
 use table_words::ids::is_call;
 
-// Record i's call in the slot that it names, one of the table's. No refresh lies after the node's time.
-fn place(t: &mut Words, s: &[u8], i: usize, slot: usize)
-    requires { (4 + 55 * i + 55 ≤ length s.now) × (slot ≡ (call_record s.now i).slot) × (slot < slots) }
-    ensures { table_of t.new ≡ placed (table_of t.old) (call_record s.now i) }
+// A record's call in the slot that it names, one of the table's. No refresh lies after the node's time.
+fn place(t: &mut Words, r: CallRecord, slot: usize)
+    requires { (slot ≡ (read_of r).slot) × (slot < slots) }
+    ensures { table_of t.new ≡ placed (table_of t.old) (read_of r.entry) }
 {
-    let call = record_words(s, i);
+    let call = r.words();
     raise_time(t, call[REFRESHED]);
     put_slot(t, slot, &call);
     mark_used(t, slot)
 }
 
-// Record i has a request's numbers only where it has the mark, the top bit above the name's length, of a call that the node
-// made. Three bytes hold no epoch that is too large.
-fn request_tidy(s: &[u8], i: usize) -> bool
-    requires { 4 + 55 * i + 55 ≤ length s.now }
-    ensures { result ≡ request_tidy (call_record s.now i).call }
+// A record has a request's numbers only where it has the mark of a call that the node made. No epoch is too large: it has
+// three bytes.
+fn request_tidy(r: CallRecord) -> bool
+    ensures { result ≡ request_tidy (read_of r.entry).call }
 {
-    let at = 4 + 55 * i;
-    let made = to_usize(s[at + 11]) / 128 == 1;
-    let none = (get24(s, at + 48) == 0) & (get32(s, at + 51) == 0);
-    made | none
+    let none = (r.epoch() == 0) & (r.identifier() == 0);
+    (r.made() == 1) | none
 }
 
-// Record i's numbers are those of a call: a Call ID other than 0, a name of 1 to 32 bytes that ends in a byte that is
+// A record's numbers are those of a call: a Call ID other than 0, a name of 1 to 32 bytes that ends in a byte that is
 // not zero, with zeros behind it, and a request only where the node made the call.
-fn tidy(s: &[u8], i: usize) -> bool
-    requires { 4 + 55 * i + 55 ≤ length s.now }
-    ensures { result ≡ (valid_ids (call_record s.now i).call && call_free_clear (call_record s.now i).call) }
+fn tidy(r: CallRecord) -> bool
+    ensures { result ≡ (valid_ids (read_of r.entry).call && call_free_clear (read_of r.entry).call) }
 {
-    let at = 4 + 55 * i;
-    let size = to_usize(s[at + 11]) % 128;
+    let at = r.start() + 12;
+    let size = r.size();
     let sized = (0 < size) & (size <= 32);
     if !sized {
         return false;
     }
-    let ends = s[at + 11 + size] != 0;
-    let clear = zeros(s, at + 12 + size, 32 - size);
-    (get16(s, at + 1) != 0) & ends & clear & request_tidy(s, i)
+    let ends = r.bytes[at + size - 1] != 0;
+    let clear = zeros(r.bytes, at + size, 32 - size);
+    (r.id() != 0) & ends & clear & request_tidy(r)
 }
 
 // The IDs of a tidy record as a request has them. There are no objects of a message: those parts are empty.
-fn record_request(s: &[u8], i: usize) -> CallRequest
-    requires { (4 + 55 * i + 55 ≤ length s.now) × ((call_record s.now i).call.size ≤ 32) }
-    ensures { (ids_in s.now result ≡ ids_of (call_record s.now i).call) × Within s.now result.name × (result.name.size ≤ 32) }
+fn record_request(r: CallRecord) -> CallRequest
+    requires { (read_of r).call.size ≤ 32 }
+    ensures { (ids_in r.entry.bytes.now result ≡ ids_of (read_of r.entry).call) × Within r.entry.bytes.now result.name × (result.name.size ≤ 32) }
 {
-    let at = 4 + 55 * i;
-    let size = to_usize(s[at + 11]) % 128;
+    let name = Part {
+        at: r.start() + 12,
+        size: r.size(),
+    };
     CallRequest {
-        endpoint: get32(s, at + 3),
-        sender: get32(s, at + 7),
-        call: CallId(get16(s, at + 1)),
-        name: Part { at: at + 12, size },
+        endpoint: r.endpoint(),
+        sender: r.sender(),
+        call: CallId(r.id()),
+        name,
         sequence: MessageId {
             epoch: 0,
             identifier: 0,
@@ -97,117 +94,91 @@ fn short_in_use(t: &Words, endpoint: u32, sender: u32, id: CallId) -> bool
 {
     let n = used_below(t);
     let mut found = false;
-    let mut i: usize = 0;
-    while i < n {
+    for i in 0..n {
         let c = call_head(t, i);
         let pair = (endpoint == c.endpoint) & (sender == c.sender);
         found = found | (is_used(t, i) & (pair & is_call(id, c.id)));
-        i += 1;
-    }
-    found
-}
-
-// The node has made a call for the pair and these two numbers of a request.
-fn made_for(t: &Words, endpoint: u32, sender: u32, request: MessageId) -> bool
-    ensures { (slot : ℕ) (short : ℕ) (long : List ℕ) → result ≡ has (same_request (record { slot = slot; ids = record { endpoint = endpoint; sender = sender; short = short; long = long }; made = true; request = request })) (entries (table_of t.now)) }
-{
-    let n = used_below(t);
-    let mut found = false;
-    let mut i: usize = 0;
-    while i < n {
-        let c = call_head(t, i);
-        let pair = (endpoint == c.endpoint) & (sender == c.sender);
-        let same = (c.made == 1)
-            & pair
-            & (request.epoch == c.epoch)
-            & (request.identifier == c.identifier);
-        found = found | (is_used(t, i) & same);
-        i += 1;
     }
     found
 }
 
 // The call of a record that has the mark shares its pair and both numbers with one in the table.
-fn request_in_use(t: &Words, s: &[u8], i: usize) -> bool
-    requires { 4 + 55 * i + 55 ≤ length s.now }
-    ensures { result ≡ has (same_request (record_entry (call_record s.now i))) (entries (table_of t.now)) }
+fn request_in_use(t: &Words, r: CallRecord) -> bool
+    ensures { result ≡ has (same_request (record_entry (read_of r.entry))) (entries (table_of t.now)) }
 {
-    let at = 4 + 55 * i;
-    let made = to_usize(s[at + 11]) / 128 == 1;
-    if !made {
+    if r.made() != 1 {
         return false;
     }
     let request = MessageId {
-        epoch: get24(s, at + 48),
-        identifier: get32(s, at + 51),
+        epoch: r.epoch(),
+        identifier: r.identifier(),
     };
-    made_for(t, get32(s, at + 3), get32(s, at + 7), request)
+    find_made(t, r.endpoint(), r.sender(), request).is_some()
 }
 
-// Whether record i's call could stand in a free slot beside the calls in the table: its numbers are those of a call, its
+// Whether a record's call could stand in a free slot beside the calls in the table: its numbers are those of a call, its
 // sender is listed and has room, neither ID is in use in its pair and, where the node made it, nor is its request. The
 // table keeps its rules, so that no other is asked again.
-fn stands(t: &Words, s: &[u8], i: usize) -> bool
-    requires { (4 + 55 * i + 55 ≤ length s.now) × (rules_hold (table_of t.now) ≡ true) × ((call_record s.now i).slot < total_of (table_of t.now)) × (is_used (table_of t.now).occupied (call_record s.now i).slot ≡ false) }
-    ensures { result ≡ rules_hold (placed (table_of t.now) (call_record s.now i)) }
+fn stands(t: &Words, r: CallRecord) -> bool
+    requires { (rules_hold (table_of t.now) ≡ true) × ((read_of r).slot < total_of (table_of t.now)) × (is_used (table_of t.now).occupied (read_of r).slot ≡ false) }
+    ensures { result ≡ rules_hold (placed (table_of t.now) (read_of r.entry)) }
 {
-    if !tidy(s, i) {
+    if !tidy(r) {
         return false;
     }
-    let q = record_request(s, i);
-    let m = listing_of(t, q.sender);
-    if !m.known {
+    let q = record_request(r);
+    let Some(m) = listing_of(t, q.sender) else {
         return false;
-    }
+    };
     if short_in_use(t, q.endpoint, q.sender, q.call) {
         return false;
     }
-    if request_in_use(t, s, i) {
+    if request_in_use(t, r) {
         return false;
     }
     if share_used_up(t, q.sender, m) {
         return false;
     }
-    let look = look_up(t, s, q);
+    let look = look_up(t, r.bytes, q);
     !look.long & !look.short
 }
 
 // A record's call could stand in a fresh table by itself. No slot of a fresh table is used.
-pub fn sound_alone(t: &Words, s: &[u8], i: usize) -> bool
-    requires { (4 + 55 * i + 55 ≤ length s.now) × (rules_hold (table_of t.now) ≡ true) × ((table_of t.now).occupied ≡ replicate 4 0) }
-    ensures { result ≡ sound_alone (table_of t.now) (call_record s.now i) }
+pub fn sound_alone(t: &Words, r: CallRecord) -> bool
+    requires { (rules_hold (table_of t.now) ≡ true) × ((table_of t.now).occupied ≡ replicate 4 0) }
+    ensures { result ≡ sound_alone (table_of t.now) (read_of r.entry) }
 {
-    let slot = record_slot(s, i);
+    let slot = r.slot();
     let inside = slot < total_for(form(t));
     if !inside {
         return false;
     }
-    stands(t, s, i)
+    stands(t, r)
 }
 
 // It fits beside those that are in the table.
-fn call_fits(t: &Words, s: &[u8], i: usize, slot: usize) -> bool
-    requires { (4 + 55 * i + 55 ≤ length s.now) × (rules_hold (table_of t.now) ≡ true) × (slot ≡ (call_record s.now i).slot) × (slot < total_of (table_of t.now)) }
-    ensures { result ≡ call_fits (table_of t.now) (call_record s.now i) }
+fn call_fits(t: &Words, r: CallRecord, slot: usize) -> bool
+    requires { (rules_hold (table_of t.now) ≡ true) × (slot ≡ (read_of r).slot) × (slot < total_of (table_of t.now)) }
+    ensures { result ≡ call_fits (table_of t.now) (read_of r.entry) }
 {
     let used = is_used(t, slot);
     if used {
         return false;
     }
-    stands(t, s, i)
+    stands(t, r)
 }
 
 // A record's call placed, where it is the one kept of its pair and long Call ID (`best`) and fits. Such a record names
 // a slot below the total. The rules hold of a fresh table, and go on to hold with each call that fits.
-pub fn with_call(t: &mut Words, best: bool, s: &[u8], i: usize)
-    requires { (4 + 55 * i + 55 ≤ length s.now) × (rules_hold (table_of t.old) ≡ true) × (best ≡ true → (call_record s.now i).slot < total_of (table_of t.old)) }
-    ensures { table_of t.new ≡ cond (best && call_fits (table_of t.old) (call_record s.now i)) (placed (table_of t.old) (call_record s.now i)) (table_of t.old) }
+pub fn with_call(t: &mut Words, best: bool, r: CallRecord)
+    requires { (rules_hold (table_of t.old) ≡ true) × (best ≡ true → (read_of r).slot < total_of (table_of t.old)) }
+    ensures { table_of t.new ≡ cond (best && call_fits (table_of t.old) (read_of r.entry)) (placed (table_of t.old) (read_of r.entry)) (table_of t.old) }
 {
     if !best {
         return;
     }
-    let slot = record_slot(s, i);
-    if call_fits(t, s, i, slot) {
-        place(t, s, i, slot);
+    let slot = r.slot();
+    if call_fits(t, r, slot) {
+        place(t, r, slot);
     }
 }

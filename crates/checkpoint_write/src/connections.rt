@@ -6,7 +6,7 @@ ghost use Rattle.table.specs.Total.{slots};
 ghost use Rattle.table.specs.Lists.{held_place, held_in, held_at, standalone_at};
 ghost use Rattle.table.specs.Rules.{rules_hold};
 ghost use Rattle.table.specs.Words.{table_of};
-ghost use Rattle.table_words.specs.Fours.{four_at_word, FourInside};
+ghost use Rattle.table_words.specs.Fours.{four_at_word};
 ghost use Rattle.checkpoint_records.specs.Put.{Put};
 ghost use Rattle.checkpoint_write.specs.Bytes.{held_bytes, FourFits};
 
@@ -18,7 +18,7 @@ use table_words::head::listed;
 
 // A connection's record, if its place is taken.
 fn put_place(out: &mut [u8], t: &Words, f: FourPlace, j: usize) -> usize
-    requires { FourInside f × (j < 4) × FourFits (four_at_word t.now f) × (length (held_bytes (held_place (four_at_word t.now f) j)) ≤ length out.old) }
+    requires { (j < 4) × FourFits (four_at_word t.now f) × (length (held_bytes (held_place (four_at_word t.now f) j)) ≤ length out.old) }
     ensures { Put (held_bytes (held_place (four_at_word t.now f) j)) result out.old out.new }
 {
     let p = place_words(t, f, j);
@@ -39,30 +39,28 @@ fn put_place(out: &mut [u8], t: &Words, f: FourPlace, j: usize) -> usize
 
 // The connections of a four, where its slot is used or its customer listed.
 fn put_four(out: &mut [u8], t: &Words, used: bool, f: FourPlace) -> usize
-    requires { FourInside f × (used ≡ true → FourFits (four_at_word t.now f)) × (length (held_bytes (list_if used (held_in (four_at_word t.now f)))) ≤ length out.old) }
+    requires { (used ≡ true → FourFits (four_at_word t.now f)) × (length (held_bytes (list_if used (held_in (four_at_word t.now f)))) ≤ length out.old) }
     ensures { Put (held_bytes (list_if used (held_in (four_at_word t.now f)))) result out.old out.new }
 {
     if !used {
         return 0;
     }
     let mut at: usize = 0;
-    let mut j: usize = 0;
-    while j < PLACES {
+    for j in 0..PLACES {
         at += put_place(&mut out[at..], t, f, j);
-        j += 1;
     }
     at
 }
 
+// Kept: two loops. One over a closure that says which four is in use needs a contract for the closure at each of the two
+// calls, as long as the loop.
 pub(crate) fn put_under_calls(out: &mut [u8], t: &Words) -> usize
     requires { (rules_hold (table_of t.now) ≡ true) × (length (held_bytes (below (held_at (table_of t.now)) slots)) ≤ length out.old) }
     ensures { Put (held_bytes (below (held_at (table_of t.now)) slots)) result out.old out.new }
 {
     let mut at: usize = 0;
-    let mut i: usize = 0;
-    while i < SLOTS {
+    for i in 0..SLOTS {
         at += put_four(&mut out[at..], t, is_used(t, i), call_four(t, i));
-        i += 1;
     }
     at
 }
@@ -73,10 +71,8 @@ pub(crate) fn put_with_no_call(out: &mut [u8], t: &Words) -> usize
 {
     let n = listed(t);
     let mut at: usize = 0;
-    let mut k: usize = 0;
-    while k < CUSTOMERS {
+    for k in 0..CUSTOMERS {
         at += put_four(&mut out[at..], t, k < n, customer_four(t, k));
-        k += 1;
     }
     at
 }

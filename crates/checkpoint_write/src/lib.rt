@@ -7,6 +7,7 @@ ghost use Rattle.table.specs.Words.{table_of};
 ghost use Rattle.spec_checkpoint.specs.Layout.{checkpoint_of};
 ghost use Rattle.spec_checkpoint.specs.Restored.{written};
 ghost use Rattle.checkpoint_records.specs.Put.{Put};
+ghost use Rattle.checkpoint_write.specs.Answered.{write_number, written_as};
 
 use crate::connections::{put_under_calls, put_with_no_call};
 use crate::slots::put_calls;
@@ -19,11 +20,22 @@ use table::layout::Words;
 mod connections;
 mod slots;
 
-// Answer 0, 1 or 73, and how many bytes the checkpoint has.
-#[derive(Clone, Copy)]
-pub struct Written {
-    pub answer: u8,
-    pub length: usize,
+// Why nothing is written: the table breaks a rule, or the buffer is too short.
+#[derive(Clone, Copy, Debug, PartialEq, Eq)]
+pub enum WriteRefusal {
+    BrokenRules,
+    ShortBuffer,
+}
+
+impl WriteRefusal {
+    pub fn number(self) -> u8
+        ensures { result ≡ write_number self }
+    {
+        match self {
+            WriteRefusal::BrokenRules => 1,
+            WriteRefusal::ShortBuffer => 73,
+        }
+    }
 }
 
 // Whoever asks has tested the rules: so the calls can be counted by their marks.
@@ -46,23 +58,16 @@ fn put_checkpoint(out: &mut [u8], t: &Words) -> usize
     c + put_with_no_call(&mut out[c..], t)
 }
 
-// Writes a checkpoint, if the table keeps the rules and the buffer has room; the bytes behind the checkpoint keep their
-// content.
-pub fn write_checkpoint(t: &Words, out: &mut [u8]) -> Written
-    ensures { (result.answer ≡ (written (table_of t.now) out.old).answer) × (result.length ≡ (written (table_of t.now) out.old).length) × (out.new ≡ (written (table_of t.now) out.old).buffer) }
+// Writes a checkpoint, if the table keeps the rules and the buffer has room, and says how many bytes it has; the bytes
+// behind the checkpoint keep their content.
+pub fn write_checkpoint(t: &Words, out: &mut [u8]) -> Result<usize, WriteRefusal>
+    ensures { written_as result out.new ≡ written (table_of t.now) out.old }
 {
     if !rules_hold(t) {
-        return Written {
-            answer: 1,
-            length: 0,
-        };
+        return Err(WriteRefusal::BrokenRules);
     }
     if out.len() < checkpoint_size(t) {
-        return Written {
-            answer: 73,
-            length: 0,
-        };
+        return Err(WriteRefusal::ShortBuffer);
     }
-    let length = put_checkpoint(out, t);
-    Written { answer: 0, length }
+    Ok(put_checkpoint(out, t))
 }

@@ -28,10 +28,8 @@ pub(crate) fn put_calls(out: &mut [u8], t: &Words) -> usize
     ensures { Put (calls_bytes (table_of t.now)) result out.old out.new }
 {
     let mut at: usize = 0;
-    let mut i: usize = 0;
-    while i < SLOTS {
+    for i in 0..SLOTS {
         at += put_slot(&mut out[at..], t, is_used(t, i), i);
-        i += 1;
     }
     at
 }

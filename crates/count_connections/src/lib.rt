@@ -30,10 +30,8 @@ pub fn held_under_calls(t: &Words) -> usize
     ensures { (result ≡ count_if (λ x. true) (below (held_at (table_of t.now)) slots)) × (result ≤ 800) }
 {
     let mut n: usize = 0;
-    let mut i: usize = 0;
-    while i < SLOTS {
+    for i in 0..SLOTS {
         n += taken_in_slot(t, i);
-        i += 1;
     }
     n
 }
@@ -55,10 +53,8 @@ pub fn held_standalone(t: &Words) -> usize
 {
     let listed = listed(t);
     let mut n: usize = 0;
-    let mut k: usize = 0;
-    while k < CUSTOMERS {
+    for k in 0..CUSTOMERS {
         n += taken_in_record(t, listed, k);
-        k += 1;
     }
     n
 }

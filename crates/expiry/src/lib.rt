@@ -2,7 +2,7 @@
 // and address.
 #![tactic(auto)]
 
-ghost use Rattle.std.specs.Prelude.{◌≡◌, ◌&&◌, max, ◌+◌, ◌*◌, ◌≤◌, ◌<◌, length};
+ghost use Rattle.std.specs.Prelude.{◌≡◌, ◌&&◌, ◌≤◌, ◌<◌, length};
 ghost use Rattle.numbers.specs.Buffer.{at_front};
 ghost use Rattle.table.specs.Total.{slots};
 ghost use Rattle.table.specs.Word.{is_used};
@@ -20,28 +20,17 @@ use table_words::head::{set_time, time};
 use update_call::slots::close_slot;
 
 // Room for a closing of every slot: slot and address in turn.
+// Kept: words, and no pairs in a type of their own: C lends them (`closings` of `chaffmoor_handle`).
 pub const CLOSING_WORDS: usize = 2 * SLOTS;
 
 pub type Closings = [u32; CLOSING_WORDS];
-
-fn larger(a: u32, b: u32) -> u32
-    ensures { result ≡ max a b }
-{
-    if a < b { b } else { a }
-}
 
 // The node's time is raised to the caller's if that is larger.
 pub fn raise_time(t: &mut Words, at: u32)
     ensures { table_of t.new ≡ raised (table_of t.old) at }
 {
     let kept = time(t);
-    set_time(t, larger(kept, at));
-}
-
-fn wide(x: u32) -> u64
-    ensures { (result ≡ x) × (result < 4294967296) }
-{
-    x as u64
+    set_time(t, kept.max(at));
 }
 
 // No connections. Here and below, whoever asks has the slot from a loop over the table's.
@@ -59,23 +48,11 @@ fn expires(t: &Words, i: usize, at: u32, period: u32) -> bool
     ensures { result ≡ (is_used (table_of t.now).occupied i && is_expired at period (call_at (table_of t.now) i)) }
 {
     let c = call_head(t, i);
-    let long = wide(c.refreshed) + 5 * wide(period) <= wide(at);
+    let long = u64::from(c.refreshed) + 5 * u64::from(period) <= u64::from(at);
     if !(is_used(t, i) & long) {
         return false;
     }
     is_idle(t, i)
-}
-
-// A reference to an array says nothing of its length, and a copy does. The copy is never read, and the compiler leaves it
-// out.
-fn copied(x: Closings)
-    ensures { length x ≡ 400 }
-{}
-
-fn sized(x: &Closings)
-    ensures { length x.now ≡ 400 }
-{
-    copied(*x)
 }
 
 // Closing k of the row.
@@ -83,7 +60,6 @@ fn list_closing(closings: &mut Closings, k: usize, slot: u32, address: u32)
     requires { k < slots }
     ensures { closings.new ≡ with_closing closings.old k (record { slot = slot; address = address }) }
 {
-    sized(closings);
     closings[2 * k] = slot;
     closings[2 * k + 1] = address;
 }
@@ -113,18 +89,14 @@ fn expire_slot(
 pub fn elapse(t: &mut Words, at: u32, period: u32, closings: &mut Closings) -> usize
     ensures { (result ≡ length (closings_of (raised (table_of t.old) at) period)) × (table_of t.new ≡ elapsed (table_of t.old) at period) × (closings.new ≡ at_front (closing_words (closings_of (raised (table_of t.old) at) period)) closings.old) }
 {
-    sized(closings);
     raise_time(t, at);
     if period == 0 {
         return 0;
     }
     let node_time = time(t);
-    let n = used_below(t);
     let mut k: usize = 0;
-    let mut i: usize = 0;
-    while i < n {
+    for i in 0..used_below(t) {
         k = expire_slot(t, i, node_time, period, closings, k);
-        i += 1;
     }
     k
 }

@@ -11,7 +11,6 @@ ghost use Rattle.spec_calls.specs.CallRules.{ids_in};
 ghost use Rattle.find_call.specs.Looks.{look_of, look_with};
 
 use fours::has_taken;
-use lists::select;
 use messages::message::CallRequest;
 use occupancy::{is_used, used_below};
 use table::layout::Words;
@@ -20,15 +19,14 @@ use table_words::fours::call_four;
 use table_words::ids::{is_call, is_size};
 use table_words::names::name_words;
 
-// What the open calls say of a request: both IDs name one call of the pair (`known`, in `slot`); the pair has the long
-// ID, the short ID in use; connections stand under its short ID.
+// What the open calls say of a request: the slot of the call of the pair that has both IDs; the pair has the long ID, the
+// short ID in use; connections stand under its short ID.
 #[derive(Clone, Copy)]
 pub struct Look {
-    pub known: bool,
+    pub slot: Option<usize>,
     pub long: bool,
     pub short: bool,
     pub busy: bool,
-    pub slot: usize,
 }
 
 // A look with one slot more. Only a call of the request's pair changes it. Names are compared as the table's words: by
@@ -53,13 +51,11 @@ fn looked(
     let short = is_call(q.call, c.id);
     let busy = short & has_taken(t, call_four(t, i));
     let long = is_size(q.name.size, c.size) & is_named(t, i, name);
-    let here = short & long;
     Look {
-        known: look.known | here,
+        slot: look.slot.or((short & long).then_some(i)),
         long: look.long | long,
         short: look.short | short,
         busy: look.busy | busy,
-        slot: select(here & !look.known, i, look.slot),
     }
 }
 
@@ -68,19 +64,15 @@ pub fn look_up(t: &Words, msg: &[u8], q: CallRequest) -> Look
     requires { (rules_hold (table_of t.now) ≡ true) × Within msg.now q.name × (q.name.size ≤ 32) }
     ensures { result ≡ look_of (table_of t.now) (ids_in msg.now q) }
 {
-    let n = used_below(t);
     let name = name_words(msg, q.name.at, q.name.size);
     let mut look = Look {
-        known: false,
+        slot: None,
         long: false,
         short: false,
         busy: false,
-        slot: 0,
     };
-    let mut i: usize = 0;
-    while i < n {
+    for i in 0..used_below(t) {
         look = looked(look, is_used(t, i), t, i, msg, q, &name);
-        i += 1;
     }
     look
 }

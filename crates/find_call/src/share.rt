@@ -1,13 +1,12 @@
 // The roster beside a request: whether its sender is listed, and whether the sender's share is used up.
-ghost use Rattle.std.specs.Prelude.{◌≡◌};
+ghost use Rattle.std.specs.Prelude.{◌≡◌, true, false, MatchOption};
 ghost use Rattle.table.specs.Total.{total_of};
 ghost use Rattle.table.specs.Lists.{roster, entries};
-ghost use Rattle.table.specs.Share.{calls_of};
+ghost use Rattle.table.specs.Share.{calls_of, is_listed};
 ghost use Rattle.table.specs.Words.{table_of};
 ghost use Rattle.spec_calls.specs.CallRules.{share_used_up};
 ghost use Rattle.find_call.specs.Listed.{ListingOf};
 
-use lists::{number_if, one_if, select};
 use occupancy::{is_used, used_below};
 use rule_limits::share_sums;
 use table::layout::{CUSTOMERS, Words};
@@ -16,52 +15,41 @@ use table_words::calls::call_head;
 use table_words::customers::customer_head;
 use table_words::head::{form, listed};
 
-// What the roster says of an address: whether it is listed, in which record, its guarantee and its limit.
+// What the roster says of an address that is listed: in which record, its guarantee and its limit.
 #[derive(Clone, Copy)]
 pub struct Listing {
-    pub known: bool,
     pub place: usize,
     pub guarantee: usize,
     pub limit: usize,
 }
 
-pub fn listing_of(t: &Words, address: u32) -> Listing
-    ensures { ListingOf (table_of t.now) address result }
+// Nothing for an address that is not listed.
+pub fn listing_of(t: &Words, address: u32) -> Option<Listing>
+    ensures { MatchOption result (is_listed (roster (table_of t.now)) address ≡ false)
+        (λ m. (is_listed (roster (table_of t.now)) address ≡ true) × ListingOf (table_of t.now) address m) }
 {
     let n = listed(t);
-    let mut known = false;
-    let mut place: usize = 0;
-    let mut guarantee: usize = 0;
-    let mut limit: usize = 0;
-    let mut k: usize = 0;
-    while k < CUSTOMERS {
+    for k in 0..CUSTOMERS {
         let m = customer_head(t, k);
-        let here = (k < n) & (address == m.address);
-        place = select(here & !known, k, place);
-        guarantee = select(known, guarantee, number_if(here, m.guarantee));
-        limit = select(known, limit, number_if(here, m.limit));
-        known = known | here;
-        k += 1;
+        if (k < n) & (address == m.address) {
+            return Some(Listing {
+                place: k,
+                guarantee: m.guarantee,
+                limit: m.limit,
+            });
+        }
     }
-    Listing {
-        known,
-        place,
-        guarantee,
-        limit,
-    }
+    None
 }
 
 // A customer's open calls.
 fn calls_of(t: &Words, address: u32) -> usize
     ensures { result ≡ calls_of (entries (table_of t.now)) address }
 {
-    let n = used_below(t);
     let mut calls: usize = 0;
-    let mut i: usize = 0;
-    while i < n {
+    for i in 0..used_below(t) {
         let c = call_head(t, i);
-        calls += one_if(is_used(t, i) & (c.sender == address));
-        i += 1;
+        calls += usize::from(is_used(t, i) & (c.sender == address));
     }
     calls
 }

@@ -1,16 +1,15 @@
-// One four, a call's or a customer's, beside a connection. Here and below, the four lies within the table: `call_four`
-// and `customer_four` promise that. Whether it holds the connection is asked of the connection alone (`Lsp`), without a
-// Call ID; which of those in it count among the connection's own four, of Call ID, sender and end point.
+// One four, a call's or a customer's, beside a connection. Whether it holds the connection is asked of the connection
+// alone (`Lsp`), without a Call ID; which of those in it count among the connection's own four, of Call ID, sender and
+// end point.
 ghost use Rattle.std.specs.Prelude.{◌≡◌, ◌&&◌, ◌<◌};
 ghost use Rattle.lists.specs.Count.{has};
 ghost use Rattle.table.specs.Lists.{place_at, is_taken, connection_at, held_in};
 ghost use Rattle.table.specs.Rules.{is_lsp};
-ghost use Rattle.table_words.specs.Fours.{four_at_word, FourInside};
+ghost use Rattle.table_words.specs.Fours.{four_at_word};
 ghost use Rattle.spec_changes.specs.Connections.{in_four};
 ghost use Rattle.spec_calls.specs.PathRules.{lsp_of, held_by};
 ghost use Rattle.find_connection.specs.Looks.{Matched};
 
-use lists::one_if;
 use messages::message::{Connection, Lsp};
 use objects::fields::CallId;
 use table::layout::{PLACES, Words};
@@ -19,7 +18,7 @@ use table_words::ids::{is_call, is_lsp, is_no_call, is_tunnel};
 
 // A place holds the connection.
 pub fn holds_at(t: &Words, f: FourPlace, j: usize, x: Lsp) -> bool
-    requires { FourInside f × (j < 4) }
+    requires { j < 4 }
     ensures { result ≡ (is_taken (place_at (four_at_word t.now f) j) && is_lsp (lsp_of x) (connection_at (four_at_word t.now f) j)) }
 {
     let p = place_words(t, f, j);
@@ -33,24 +32,17 @@ pub fn holds_at(t: &Words, f: FourPlace, j: usize, x: Lsp) -> bool
 
 // A four holds the connection. One that does not count, or is of another sender, holds nothing.
 pub fn holds(used: bool, t: &Words, f: FourPlace, x: Lsp) -> bool
-    requires { FourInside f }
     ensures { result ≡ (used && has (is_lsp (lsp_of x)) (held_in (four_at_word t.now f))) }
 {
     if !(used & (x.sender == f.sender)) {
         return false;
     }
-    let mut held = false;
-    let mut j: usize = 0;
-    while j < PLACES {
-        held = held | holds_at(t, f, j, x);
-        j += 1;
-    }
-    held
+    (0..PLACES).any(|j| holds_at(t, f, j, x))
 }
 
 // A place is taken by one that counts among the four of a Call ID, a sender and an end point.
 fn counts_at(t: &Words, f: FourPlace, j: usize, call: CallId, sender: u32, endpoint: u32) -> bool
-    requires { FourInside f × (j < 4) }
+    requires { j < 4 }
     ensures { result ≡ (is_taken (place_at (four_at_word t.now f) j) && in_four call.0 sender endpoint (connection_at (four_at_word t.now f) j)) }
 {
     let p = place_words(t, f, j);
@@ -69,7 +61,6 @@ pub struct Match {
 
 // A four that does not count, or is of another sender, has nothing to say.
 pub fn match_four(used: bool, t: &Words, f: FourPlace, x: Connection) -> Match
-    requires { FourInside f }
     ensures { Matched used (held_by x) (held_in (four_at_word t.now f)) result.other result.held result.four }
 {
     if !(used & (x.lsp.sender == f.sender)) {
@@ -81,11 +72,9 @@ pub fn match_four(used: bool, t: &Words, f: FourPlace, x: Connection) -> Match
     }
     let mut held = false;
     let mut four: usize = 0;
-    let mut j: usize = 0;
-    while j < PLACES {
+    for j in 0..PLACES {
         held = held | holds_at(t, f, j, x.lsp);
-        four += one_if(counts_at(t, f, j, x.call, x.lsp.sender, x.lsp.endpoint));
-        j += 1;
+        four += usize::from(counts_at(t, f, j, x.call, x.lsp.sender, x.lsp.endpoint));
     }
     let own = is_call(x.call, f.call);
     Match {
@@ -93,12 +82,4 @@ pub fn match_four(used: bool, t: &Words, f: FourPlace, x: Connection) -> Match
         held,
         four,
     }
-}
-
-// Where a search ends: whether the connection is held, and in which slot's call, or with which customer; 0 where it is
-// not.
-#[derive(Clone, Copy)]
-pub struct Found {
-    pub held: bool,
-    pub at: usize,
 }

@@ -1,30 +1,46 @@
 -- The places of a four: how many are taken, the first that is free, places that are valid.
 -- Assumes nothing.
-use Prim.Native.Nat.{ℕ, ◌+◌, ◌<◌}
-use mathlib.Core.Path.{◌≡◌}
-use mathlib.Core.Bool.{Bool, true, cond, ◌&&◌}
+use Prim.Native.Nat.{ℕ, ◌+◌, ◌≤◌, ◌<◌}
+use native.Mathlib.Omega.{arith}
+use mathlib.Core.Path.{◌≡◌, refl, sym, ◌∙◌}
+use mathlib.Core.Bool.{Bool, true, false, ◌&&◌, true≢false}
+use mir.Val.{bool_byte}
 use lib.Dec.{eqb, ltb}
 use borrow.Author.Tests.{eq-eqb, ne_eqb}
 use Rattle.lists.specs.Count.{bit, count_if}
 use Rattle.lists.specs.Below.{below, first_below}
-use Rattle.lists.proofs.Shown.{count_four}
+use Rattle.lists.proofs.Below.{count_turn}
+use Rattle.lists.proofs.Search.{first_found, first_least}
 use Rattle.table.specs.Table.{Place}
-use Rattle.table.specs.Lists.{Four, place_at, is_taken, connection_at, held_in}
+use Rattle.table.specs.Lists.{Four, place_at, is_taken, connection_at, held_place}
 use Rattle.table.specs.Rules.{place_clear, place_valid}
 
--- the first of four places, by the test of each
-pub four_searched : (p : ℕ → Bool) (a b c d : Bool) (r : ℕ) → a ≡ p 0 → b ≡ p 1 → c ≡ p 2 → d ≡ p 3
-    → (r ≡ cond a 0 (cond b 1 (cond c 2 (cond d 3 0)))) × (r < 4) → (r ≡ first_below p 4) × (r < 4)
+-- a number below the bound that passes, where none below it does
+pub first_is : (p : ℕ → Bool) (n i : ℕ) → i < n → p i ≡ true → ((k : ℕ) → k < i → p k ≡ false) → (i ≡ first_below p n) × (i < n)
+first_is p n i l e none =
+    let f = first_found p n i l e in
+    let least : first_below p n < i → ⊥ = λ h. true≢false (sym f.passes ∙ none _ h) in
+    let most : i < first_below p n → ⊥ = λ h. true≢false (sym e ∙ first_least p n i h) in
+    (omega arith, l)
+
+pub first_no : (p : ℕ → Bool) → ((k : ℕ) → k < 4 → p k ≡ false) → 0 ≡ first_below p 4
 unfolding first_below below
-four_searched p a b c d r e f g h k = (rw (← e, ← f, ← g, ← h) k.0, k.1)
+first_no p h = rw (h 0 (omega arith), h 1 (omega arith), h 2 (omega arith), h 3 (omega arith))
 
-module _ (f : Four) where
-  abbrev taken : ℕ → Bool
-  taken j = is_taken (place_at f j)
+-- one more place counted
+pub taken_turn : (f : Four) (j n : ℕ) (b : Bool) (r : ℕ) → n ≡ count_if (λ x. true) (below (held_place f) j) → b ≡ is_taken (place_at f j) → r ≡ bool_byte b
+    → (n + r ≡ count_if (λ x. true) (below (held_place f) (j + 1))) × (r ≤ 1)
+taken_turn f j n b r e h q =
+    let one : bool_byte b ≡ bit (b && true) = by b in
+    (count_turn (held_place f) (λ x. true) j n r b (connection_at f j) (rw h) e (q ∙ one), rw q (most b))
+  where
+    by : (b : Bool) → bool_byte b ≡ bit (b && true)
+    by true = refl
+    by false = refl
 
-  pub four_counted : (a b c d : Bool) (r : ℕ) → a ≡ taken 0 → b ≡ taken 1 → c ≡ taken 2 → d ≡ taken 3 → r ≡ bit a + bit b + bit c + bit d
-      → r ≡ count_if (λ x. true) (held_in f)
-  four_counted a b c d r e g h i k = rw (k, e, g, h, i) (count_four taken (connection_at f))
+    most : (b : Bool) → bool_byte b ≤ 1
+    most true = omega arith
+    most false = omega arith
 
 -- ---- places that are valid
 

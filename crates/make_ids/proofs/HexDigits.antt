@@ -8,7 +8,7 @@ use mathlib.Core.List.{[], ◌∷◌, ◌++◌}
 use mathlib.Core.Bool.{Bool, true, false}
 use lib.Dec.{ltb, eqb}
 use lib.ListN.{get_or}
-use borrow.Author.Tests.{lt-ltb, le-ltb, ltb-true, ltb-false, eq-eqb, ne_eqb, eqb-true}
+use borrow.Author.Tests.{lt-ltb, le-ltb, ltb-true, ltb-false, eq-eqb, eqb-true}
 use Rattle.lists.proofs.Below.{below_ext}
 use Rattle.table.specs.Rules.{same_bytes}
 use Rattle.table.specs.Words.{bytes_of}
@@ -16,6 +16,7 @@ use Rattle.table.proofs.SameBytes.{same_bytes_lem}
 use Rattle.table.proofs.Names.{alike, same_self, name_told}
 use Rattle.spec_calls.specs.Made.{hex_digit, hex_digits, made_name}
 use Rattle.spec_calls.proofs.MadeName.{name_apart}
+use Rattle.std.proofs.Common.{Some, None}
 use Rattle.make_ids.specs.Digits.{ValueOf, NumberOf}
 
 -- ---- one digit
@@ -101,7 +102,7 @@ module _ (word b c d : ℕ) (vb : ValueOf (word / 256 % 256) b) (vc : ValueOf (w
       (three_values n h)
 
   module _ (again : ℕ) (written : bytes_of again ≡ hex_digits 4 read) where
-    pub number_read : again ≡ word → NumberOf word read
+    pub number_read : again ≡ word → NumberOf word (Some read)
     number_read e = record { number = λ n l h. alike _ _ (there n) (back n h); fits = read_fits }
       where
         digits : bytes_of word ≡ hex_digits 4 read
@@ -113,8 +114,8 @@ module _ (word b c d : ℕ) (vb : ValueOf (word / 256 % 256) b) (vc : ValueOf (w
         back : (n : ℕ) → n < 4096 → same_bytes (hex_digits 4 n) (bytes_of word) ≡ true → eqb n read ≡ true
         back n h t = eq-eqb n read (digits_apart n read (omega arith) (omega (arith, read_fits)) (same_bytes_lem _ _ t ∙ digits))
 
-    pub number_none : (again ≡ word → ⊥) → NumberOf word 0
-    number_none o = record { number = λ n l h. ne_eqb n 0 (λ e. omega arith) ∙ sym (by n h (same_bytes (hex_digits 4 n) (bytes_of word)) refl); fits = omega arith }
+    pub number_none : (again ≡ word → ⊥) → NumberOf word None
+    number_none o = record { number = λ n l h. sym (by n h (same_bytes (hex_digits 4 n) (bytes_of word)) refl); fits = tt }
       where
         by : (n : ℕ) → n < 4096 → (t : Bool) → same_bytes (hex_digits 4 n) (bytes_of word) ≡ t → t ≡ false
         by n h true t =

@@ -10,6 +10,7 @@ use Rattle.table.specs.Table.{Call}
 use Rattle.table.specs.Lists.{ids_of}
 use Rattle.table.specs.Rules.{same_bytes, same_short, same_long}
 use Rattle.spec_calls.specs.Made.{made_name, made_ids}
+use Rattle.std.proofs.Common.{Option, Some}
 use Rattle.make_ids.specs.Digits.{DigitsOf}
 use Rattle.make_ids.specs.Taken.{NumberIn, Marked, Takes}
 use Rattle.make_ids.specs.declared.digits.PairDigits.{PairDigits}
@@ -39,7 +40,7 @@ module _ (used : Bool) (endpoint sender : ℕ) (d : Call) where
   }
 
   -- a call of the pair
-  pub takes_two : (p : PairDigits) (m x y : ℕ) → DigitsOf endpoint sender p → not pair ≡ false → Marked d.id x → NumberIn p d m → Marked m y
+  pub takes_two : (p : PairDigits) (m : Option ℕ) (x y : ℕ) → DigitsOf endpoint sender p → not pair ≡ false → Marked (Some d.id) x → NumberIn p d m → Marked m y
       → Takes used endpoint sender d (record { short = x; name = y })
   takes_two p m x y g h short number name =
       let here = not-false pair h in

@@ -7,7 +7,7 @@ use mathlib.Core.List.{List, [], ◌∷◌, ◌++◌}
 use mathlib.Core.Bool.{Bool, true, false, not, ◌&&◌}
 use lib.Dec.{eqb}
 use lib.ListN.{get_or, take, replicate, length-take}
-use borrow.Author.Tests.{eq-eqb, ne_eqb, eqb-true, eqb-false, not-true, not-false}
+use borrow.Author.Tests.{eq-eqb, eqb-true, eqb-false, not-true, not-false}
 use Rattle.numbers.specs.Buffer.{at_front}
 use Rattle.lists.specs.Below.{below}
 use Rattle.table.specs.Table.{Call}
@@ -23,7 +23,8 @@ use Rattle.table_words.proofs.NameBytes.{name_word_at}
 use Rattle.table_words.proofs.Padded.{name_room}
 use Rattle.spec_calls.specs.Made.{hex_digits, made_name}
 use Rattle.spec_calls.proofs.MadeName.{name_length_lem}
-use Rattle.make_ids.specs.Digits.{NumberOf, DigitsOf, begins_with}
+use Rattle.std.proofs.Common.{Option, None}
+use Rattle.make_ids.specs.Digits.{is_it, NumberOf, DigitsOf, begins_with}
 use Rattle.make_ids.specs.declared.digits.PairDigits.{PairDigits}
 use Rattle.make_ids.proofs.HexDigits.{word_told}
 
@@ -111,14 +112,14 @@ module _ (endpoint sender : ℕ) (p : PairDigits) (h : DigitsOf endpoint sender 
         by false b c d e = refl
 
     -- the number that the name is made of
-    abbrev MadeOf : ℕ → Type 0
-    MadeOf r = (n : ℕ) → 1 ≤ n → n < 4096 → eqb n r ≡ same_bytes (made_name endpoint sender n) (ids_of call).long
+    abbrev MadeOf : Option ℕ → Type 0
+    MadeOf r = (n : ℕ) → 1 ≤ n → n < 4096 → is_it n r ≡ same_bytes (made_name endpoint sender n) (ids_of call).long
 
-    no_number : ((n : ℕ) → same_bytes (made_name endpoint sender n) (ids_of call).long ≡ false) → MadeOf 0
-    no_number o n a b = ne_eqb n 0 (λ e. omega arith) ∙ sym (o n)
+    no_number : ((n : ℕ) → same_bytes (made_name endpoint sender n) (ids_of call).long ≡ false) → MadeOf None
+    no_number o n a b = sym (o n)
 
     -- a name of another size is made of no number
-    pub another_size : not (eqb 20 call.size) ≡ true → MadeOf 0
+    pub another_size : not (eqb 20 call.size) ≡ true → MadeOf None
     another_size s =
         let o = eqb-false 20 call.size (not-true _ s) in
         let long = length-take call.size call.name ∙ ap (min call.size) (name_room w i l) in
@@ -132,10 +133,10 @@ module _ (endpoint sender : ℕ) (p : PairDigits) (h : DigitsOf endpoint sender 
       twenty = sym (eqb-true 20 call.size (not-false _ s))
 
       -- nor is a name that begins otherwise
-      pub another_start : not begins ≡ true → MadeOf 0
+      pub another_start : not begins ≡ true → MadeOf None
       another_start o = no_number (λ n. by_words n twenty ∙ ap (λ b. b && same_bytes (hex_digits 4 n) (bytes_of (word 4))) (not-true begins o))
 
-      pub number_at : (r : ℕ) → not begins ≡ false → NumberOf (word 4) r → MadeOf r
+      pub number_at : (r : Option ℕ) → not begins ≡ false → NumberOf (word 4) r → MadeOf r
       number_at r o k n a b =
           k.number n a b
           ∙ sym (by_words n twenty ∙ ap (λ b. b && same_bytes (hex_digits 4 n) (bytes_of (word 4))) (not-false begins o))

@@ -1,5 +1,5 @@
 -- Words of the contracts: hex digits in a name's words.
-use Rattle.std.specs.Prelude.{ℕ, ◌≤◌, ◌<◌, ◌≡◌, Bool, ◌&&◌, List, ◌++◌, eqb}
+use Rattle.std.specs.Prelude.{ℕ, ◌≤◌, ◌<◌, ◌≡◌, Bool, false, ◌&&◌, List, ◌++◌, Option, Some, None, IfSome, eqb}
 use Rattle.table.specs.Rules.{same_bytes}
 use Rattle.table.specs.Words.{bytes_of}
 use Rattle.table_words.specs.Names.{word_in}
@@ -11,10 +11,15 @@ pub record ValueOf (byte r : ℕ) : Type 0 where
   pub value : (d : ℕ) → d < 16 → byte ≡ hex_digit d → r ≡ d
   pub small : r < 16
 
--- the number below 4,096 whose four digits a word has, 0 where it has none's
-pub record NumberOf (word r : ℕ) : Type 0 where
-  pub number : (n : ℕ) → 1 ≤ n → n < 4096 → eqb n r ≡ same_bytes (hex_digits 4 n) (bytes_of word)
-  pub fits : r < 4096
+-- a number is the one that was found
+abbrev pub is_it : ℕ → Option ℕ → Bool
+is_it n None = false
+is_it n (Some r) = eqb n r
+
+-- the number below 4,096 whose four digits a word has
+pub record NumberOf (word : ℕ) (r : Option ℕ) : Type 0 where
+  pub number : (n : ℕ) → 1 ≤ n → n < 4096 → is_it n r ≡ same_bytes (hex_digits 4 n) (bytes_of word)
+  pub fits : IfSome r (λ n. n < 4096)
 
 -- the digits of sender and end point
 pub record DigitsOf (endpoint sender : ℕ) (p : PairDigits) : Type 0 where

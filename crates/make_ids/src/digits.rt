@@ -29,10 +29,10 @@ fn digit_value(b: u32) -> u32
     if b < 0x61 { b % 16 } else { (b % 16 + 9) % 16 }
 }
 
-// The number below 4,096 whose four digits are in a word, 0 where none's are: larger numbers are never made, so that the
+// The number below 4,096 whose four digits are in a word: larger numbers are never made, so that the
 // first digit need not be read. The digits are written again and compared, so that nothing has to be known of bytes that
 // are no digits.
-pub(crate) fn number_of(word: u32) -> u32
+pub(crate) fn number_of(word: u32) -> Option<u32>
     ensures { NumberOf word result }
 {
     let b = digit_value(word / 256 % 256);
@@ -40,9 +40,9 @@ pub(crate) fn number_of(word: u32) -> u32
     let d = digit_value(word / 16777216);
     let n = b * 256 + c * 16 + d;
     if four_digits(n) == word {
-        return n;
+        return Some(n);
     }
-    0
+    None
 }
 
 // The digits of a pair, in the order of its names.

@@ -1,11 +1,12 @@
 // The name that is made of a pair and a short ID, as the table's words and as bytes.
-ghost use Rattle.std.specs.Prelude.{◌≡◌, ◌<◌, get_or, replicate};
+ghost use Rattle.std.specs.Prelude.{◌≡◌, replicate};
 ghost use Rattle.numbers.specs.Buffer.{at_front};
-ghost use Rattle.table.specs.Words.{bytes_of, name_at_word};
+ghost use Rattle.table.specs.Words.{name_at_word};
 ghost use Rattle.spec_calls.specs.Made.{made_name};
 
 use crate::digits::{four_digits, pair_digits};
 use objects::fields::CallId;
+use table_words::names::byte_of;
 
 // How many bytes a made name has.
 pub const MADE_SIZE: usize = 20;
@@ -28,22 +29,13 @@ pub fn made_name_words(endpoint: u32, sender: u32, id: CallId) -> [u32; 8]
     ]
 }
 
-fn word_byte(word: u32, j: usize) -> u8
-    requires { j < 4 }
-    ensures { result ≡ get_or (bytes_of word) j 0 }
-{
-    ((word >> (8 * j)) % 256) as u8
-}
-
 // The bytes of a name's words: so table and reply cannot differ.
 pub fn name_bytes(words: &[u32; 8]) -> [u8; 32]
     ensures { result ≡ name_at_word words.now 0 }
 {
     let mut name = [0u8; 32];
-    let mut k: usize = 0;
-    while k < 32 {
-        name[k] = word_byte(words[k / 4], k % 4);
-        k += 1;
+    for k in 0..32 {
+        name[k] = byte_of(words[k / 4], k % 4);
     }
     name
 }

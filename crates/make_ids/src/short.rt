@@ -33,31 +33,34 @@ fn begins_with(t: &Words, i: usize, p: PairDigits) -> bool
     sender & endpoint
 }
 
-// The number that a slot's name is made of for the pair of these digits, 0 where it is made of none. Only a name of the
-// right size is looked at.
-fn number_in(t: &Words, i: usize, p: PairDigits) -> u32
+// The number that a slot's name is made of for the pair of these digits. Only a name of the right size is looked at.
+fn number_in(t: &Words, i: usize, p: PairDigits) -> Option<u32>
     requires { i < slots }
     ensures { NumberIn p (call_at (table_of t.now) i) result }
 {
     let c = call_head(t, i);
     if !is_size(MADE_SIZE, c.size) {
-        return 0;
+        return None;
     }
     if !begins_with(t, i, p) {
-        return 0;
+        return None;
     }
     number_of(name_word(t, i, 4))
 }
 
-// A number's place among the marks: 0 for the numbers past the last.
-fn mark_of(n: u32) -> usize
+// A number's place among the marks: 0 for none, and for the numbers past the last.
+fn mark_of(n: Option<u32>) -> usize
     ensures { Marked n result }
 {
-    let mark = n as usize;
+    let Some(number) = n else {
+        return 0;
+    };
+    let mark = number as usize;
     if mark < MARKS { mark } else { 0 }
 }
 
-// The numbers that a slot takes of a pair: its short ID, and the one that its name is made of. 0 stands for none.
+// The marks that a slot sets for a pair: that of its short ID, and that of the number that its name is made of.
+// Kept: place 0 for none, and no Option: marking is two stores for each slot, without a test.
 #[derive(Clone, Copy)]
 struct Taken {
     short: usize,
@@ -73,7 +76,7 @@ fn taken_by(t: &Words, i: usize, used: bool, endpoint: u32, sender: u32, p: Pair
     if !pair {
         return Taken { short: 0, name: 0 };
     }
-    let short = mark_of(c.id.0);
+    let short = mark_of(Some(c.id.0));
     let name = mark_of(number_in(t, i, p));
     Taken { short, name }
 }
@@ -82,31 +85,26 @@ fn taken_by(t: &Words, i: usize, used: bool, endpoint: u32, sender: u32, p: Pair
 fn first_unmarked(marks: &[bool; MARKS]) -> usize
     ensures { (result ≡ first_not (λ n. get_or marks.now n false) 400 1) × (result ≤ 401) }
 {
-    let mut n: usize = 1;
-    while n < LARGEST {
+    for n in 1..LARGEST {
         if !marks[n] {
             return n;
         }
-        n += 1;
     }
-    n
+    LARGEST
 }
 
 // One pass over the calls: a search of them for each number would compare 40,000 where one pair has 200.
 pub fn made_short(t: &Words, endpoint: u32, sender: u32) -> CallId
     ensures { (result.0 ≡ made_short (entries (table_of t.now)) endpoint sender) × (1 ≤ result.0) × (result.0 ≤ 401) }
 {
-    let n = used_below(t);
     let p = pair_digits(endpoint, sender);
     let mut marks = [false; MARKS];
-    let mut i: usize = 0;
-    while i < n {
+    for i in 0..used_below(t) {
         let taken = taken_by(t, i, is_used(t, i), endpoint, sender, p);
         let short = taken.short;
         let name = taken.name;
         marks[short] = true;
         marks[name] = true;
-        i += 1;
     }
     CallId(first_unmarked(&marks) as u16)
 }

@@ -14,22 +14,20 @@ use Rattle.numbers.proofs.Padding.{unpadded_says}
 use Rattle.lists.proofs.Tests.{both}
 use Rattle.objects.specs.Forms.{name_length}
 use Rattle.objects.specs.Placed.{Placed}
-use Rattle.objects.specs.Walk.{walk_of}
+use Rattle.objects.specs.Walk.{Walked, walk_of}
 use Rattle.objects.proofs.Placed.{walk_placed}
 use Rattle.objects.specs.declared.fault.Fault.{Fault}
 use Rattle.objects.specs.declared.fault.Fault.TheVariants.{CallIdentity}
 use Rattle.objects.specs.declared.walk.Objects.{Objects}
-use Rattle.objects.specs.declared.walk.Walked.{Walked}
-use Rattle.objects.specs.declared.walk.Walked.TheVariants.{Stopped, Finished}
 use Rattle.messages.specs.declared.header.MessageType.{MessageType}
 use Rattle.messages.specs.declared.header.MessageType.TheVariants.{Path, PathTear, Notify}
-use Rattle.messages.specs.declared.header.Header.{Header}
-use Rattle.messages.specs.declared.header.Header.TheVariants.{Bad, Good}
+use Rattle.messages.specs.Header.{Header}
+use Rattle.std.specs.Prelude.{Ok, Err}
 use Rattle.messages.specs.declared.message.CallRequest.{CallRequest}
 use Rattle.messages.specs.declared.message.Message.{Message}
 use Rattle.messages.specs.declared.message.Message.TheVariants.{Open, Close}
-use Rattle.messages.specs.declared.read.Reading.{Reading}
-use Rattle.messages.specs.declared.read.Reading.TheVariants.{Refused, Unfit, Read}
+use Rattle.messages.specs.Read.{Reading, refused, unfit, received}
+use Rattle.messages.specs.declared.read.Refusal.TheVariants.{Misformed, Unfit}
 use Rattle.messages.specs.Header.{header_of}
 use Rattle.messages.specs.Counts.{notify_complete, path_complete}
 use Rattle.messages.specs.Fields.{call_id_at, sender_at, long_size, connection_in, request_at}
@@ -40,9 +38,9 @@ use Rattle.messages.proofs.Bounds.{path_bounds, notify_bounds}
 
 -- the promise of a reading: none where nothing was read
 Promised : List ℕ → Reading → Type 0
-Promised s (Refused fault offset headers) = Unit {0}
-Promised s (Unfit fault sender headers) = Unit {0}
-Promised s (Read message headers) = Inside s message
+Promised s (Err (Misformed fault offset headers)) = Unit {0}
+Promised s (Err (Unfit fault sender headers)) = Unit {0}
+Promised s (Ok read) = Inside s read.message
 
 neither : (a b : Bool) → (a || b) ≡ false → (a ≡ false) × (b ≡ false)
 neither true b h = (h, cc)
@@ -79,15 +77,15 @@ module _ (s : List ℕ) (session attribute : ℕ) where
       by false q e = inl (some_identity e)
 
 module _ (s : List ℕ) where
-  refused : (fault : Fault) (offset headers : ℕ) → Promised s (Refused fault offset headers)
+  none_refused : (fault : Fault) (offset headers : ℕ) → Promised s (refused fault offset headers)
   unfolding Promised
-  refused fault offset headers = tt
+  none_refused fault offset headers = tt
 
-  unfit : (fault : Fault) (sender headers : ℕ) → Promised s (Unfit fault sender headers)
+  none_unfit : (fault : Fault) (sender headers : ℕ) → Promised s (unfit fault sender headers)
   unfolding Promised
-  unfit fault sender headers = tt
+  none_unfit fault sender headers = tt
 
-  as_read : (message : Message) (headers : ℕ) → Inside s message → Promised s (Read message headers)
+  as_read : (message : Message) (headers : ℕ) → Inside s message → Promised s (received message headers)
   unfolding Promised
   as_read message headers h = h
 
@@ -141,13 +139,13 @@ module _ (s : List ℕ) where
   notify : (v : Objects) → Placed s v → Promised s (notify_of s v)
   unfolding notify_of
   notify v g =
-      either (not (notify_complete v)) _ _ (λ _. refused _ _ _) (λ e.
-      either (not (is_call_request s v.status.at v.error.at)) _ _ (λ _. unfit _ _ _) (λ _. by (closes_at s v.status.at) (not-false _ e)))
+      either (not (notify_complete v)) _ _ (λ _. none_refused _ _ _) (λ e.
+      either (not (is_call_request s v.status.at v.error.at)) _ _ (λ _. none_unfit _ _ _) (λ _. by (closes_at s v.status.at) (not-false _ e)))
     where
       by : (b : Bool) → notify_complete v ≡ true
-          → Promised s (cond (bad_identity s b v.session.at v.attribute.at) (Unfit CallIdentity (sender_at s v.template.at) v.headers) (cond b (Read (Close (request_in v)) v.headers) (Read (Open (request_in v)) v.headers)))
-      by true e = either (bad_identity s true v.session.at v.attribute.at) _ _ (λ _. unfit _ _ _) (λ i. as_read _ _ (closing v g e i))
-      by false e = either (bad_identity s false v.session.at v.attribute.at) _ _ (λ _. unfit _ _ _) (λ i. as_read _ _ (opening v g e i))
+          → Promised s (cond (bad_identity s b v.session.at v.attribute.at) (unfit CallIdentity (sender_at s v.template.at) v.headers) (cond b (received (Close (request_in v)) v.headers) (received (Open (request_in v)) v.headers)))
+      by true e = either (bad_identity s true v.session.at v.attribute.at) _ _ (λ _. none_unfit _ _ _) (λ i. as_read _ _ (closing v g e i))
+      by false e = either (bad_identity s false v.session.at v.attribute.at) _ _ (λ _. none_unfit _ _ _) (λ i. as_read _ _ (opening v g e i))
 
   connection : (v : Objects) → Placed s v → path_complete v ≡ true → ConnectionInside s (connection_in s v.session.at v.template.at)
   unfolding connection_in
@@ -164,7 +162,7 @@ module _ (s : List ℕ) where
 
   path : (v : Objects) (adds : Bool) → Placed s v → Promised s (path_of s v adds)
   unfolding path_of
-  path v adds g = either (not (path_complete v)) _ _ (λ _. refused _ _ _) (λ e. either adds _ _ (λ _. as_read _ _ (connection v g (not-false _ e))) (λ _. as_read _ _ (connection v g (not-false _ e))))
+  path v adds g = either (not (path_complete v)) _ _ (λ _. none_refused _ _ _) (λ e. either adds _ _ (λ _. as_read _ _ (connection v g (not-false _ e))) (λ _. as_read _ _ (connection v g (not-false _ e))))
 
   by_type : (mtype : MessageType) (v : Objects) → Placed s v → Promised s (objects_read s mtype v)
   by_type Path v g = path v true g
@@ -172,12 +170,12 @@ module _ (s : List ℕ) where
   by_type Notify v g = notify v g
 
   by_walk : (mtype : MessageType) (w : Walked) → walk_of s ≡ w → Promised s (walked_read s mtype w)
-  by_walk mtype (Stopped fault offset headers) e = refused _ _ _
-  by_walk mtype (Finished v) e = by_type mtype v (walk_placed s v e)
+  by_walk mtype (Err stop) e = none_refused _ _ _
+  by_walk mtype (Ok v) e = by_type mtype v (walk_placed s v e)
 
   by_header : (h : Header) → Promised s (header_read s h)
-  by_header (Bad fault) = refused _ _ _
-  by_header (Good mtype) = by_walk mtype (walk_of s) refl
+  by_header (Err fault) = none_refused _ _ _
+  by_header (Ok mtype) = by_walk mtype (walk_of s) refl
 
   promised : Promised s (read_of s)
   unfolding read_of

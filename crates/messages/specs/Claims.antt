@@ -6,19 +6,18 @@ use Rattle.objects.specs.Forms.{name_length}
 use Rattle.objects.specs.FirstFault.{FirstFault}
 use Rattle.objects.specs.Part.{part_of}
 use Rattle.messages.specs.declared.message.Message.{Message}
-use Rattle.messages.specs.declared.read.Reading.TheVariants.{Refused, Read}
 use Rattle.messages.specs.Fields.{long_size}
 use Rattle.messages.specs.Inside.{Inside}
-use Rattle.messages.specs.Read.{read_of}
+use Rattle.messages.specs.Read.{refused, received, read_of}
 
 -- the parts of a message that is read lie within it, with the sizes that 01's table gives
 abbrev pub ReadInside : Type 0
-ReadInside = (s : List ℕ) (message : Message) (headers : ℕ) → read_of s ≡ Read message headers → Inside s message
+ReadInside = (s : List ℕ) (message : Message) (headers : ℕ) → read_of s ≡ received message headers → Inside s message
 
 -- 02, A3: a refusal with a fault of one object has the place of the first faulty object, any other has 0: a node that names the object behind
 -- it, or a place for a missing object, is none
 abbrev pub RefusedAt : Type 0
-RefusedAt = (s : List ℕ) (fault : Fault) (offset headers : ℕ) → read_of s ≡ Refused fault offset headers
+RefusedAt = (s : List ℕ) (fault : Fault) (offset headers : ℕ) → read_of s ≡ refused fault offset headers
     → ((is_of_object (fault_number fault) ≡ true) × FirstFault s fault offset headers) ⊎ ((is_of_object (fault_number fault) ≡ false) × (offset ≡ 0))
 
 -- the session names of two SESSION_ATTRIBUTEs are the same bytes but for zeros at the end, counted or not

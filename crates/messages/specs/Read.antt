@@ -1,25 +1,38 @@
 -- What a message of any bytes is read as: tests 3 to 10, then for a Notify 12 and 13 (01, Every answer), then its kind.
 -- Test 11, on the sender, lies between 10 and 12 and wants the roster: what 12 or 13 refuses is handed up with its
 -- sender.
-use Rattle.std.specs.Prelude.{ℕ, ◌+◌, List, Bool, true, false, cond, not, ◌&&◌, ◌||◌, get_or, ltb, eqb}
+use Rattle.std.specs.Prelude.{ℕ, ◌+◌, List, Bool, true, false, Result, Ok, Err, cond, not, ◌&&◌, ◌||◌, get_or, ltb, eqb}
 use Rattle.numbers.specs.BigEndian.{be16_at, be32_at}
 use Rattle.objects.specs.Forms.{name_length}
-use Rattle.objects.specs.Walk.{walk_of}
+use Rattle.objects.specs.Walk.{Walked, walk_of}
+use Rattle.objects.specs.declared.fault.Fault.{Fault}
 use Rattle.objects.specs.declared.fault.Fault.TheVariants.{ObjectCount, NotCallRequest, CallIdentity}
 use Rattle.objects.specs.declared.walk.Objects.{Objects}
-use Rattle.objects.specs.declared.walk.Walked.{Walked}
-use Rattle.objects.specs.declared.walk.Walked.TheVariants.{Stopped, Finished}
 use Rattle.messages.specs.declared.header.MessageType.{MessageType}
 use Rattle.messages.specs.declared.header.MessageType.TheVariants.{Path, PathTear, Notify}
-use Rattle.messages.specs.declared.header.Header.{Header}
-use Rattle.messages.specs.declared.header.Header.TheVariants.{Bad, Good}
 use Rattle.messages.specs.declared.message.Message.TheVariants.{Open, Close, Add, Drop}
-use Rattle.messages.specs.declared.read.Reading.{Reading}
-use Rattle.messages.specs.declared.read.Reading.TheVariants.{Refused, Unfit, Read}
-use Rattle.messages.specs.Header.{header_of}
+use Rattle.messages.specs.declared.message.Message.{Message}
+use Rattle.messages.specs.declared.read.Received.{Received}
+use Rattle.messages.specs.declared.read.Refusal.{Refusal}
+use Rattle.messages.specs.declared.read.Refusal.TheVariants.{Misformed, Unfit}
+use Rattle.messages.specs.Header.{Header, header_of}
 use Rattle.messages.specs.Status.{bit_set, reflect_bit, call_bit, delete_bit}
 use Rattle.messages.specs.Counts.{notify_complete, path_complete}
 use Rattle.messages.specs.Fields.{call_id_at, sender_at, long_size, connection_in, request_at}
+
+-- what a message of any bytes is read as, each with the number of headers read: refused by a test from 3 to 10, with the
+-- faulty object's place; by 12 or 13, with its sender; or a message
+abbrev pub Reading : Type 0
+Reading = Result Received Refusal
+
+abbrev pub refused : Fault → ℕ → ℕ → Reading
+refused fault offset headers = Err (Misformed fault offset headers)
+
+abbrev pub unfit : Fault → ℕ → ℕ → Reading
+unfit fault sender headers = Err (Unfit fault sender headers)
+
+abbrev pub received : Message → ℕ → Reading
+received message headers = Ok (record { message = message; headers = headers })
 
 abbrev pub status_at : List ℕ → ℕ → ℕ
 status_at s status = be32_at s (status + 4)
@@ -46,20 +59,20 @@ closes_at s status = bit_set delete_bit (status_at s status)
 
 unfoldable pub notify_of : List ℕ → Objects → Reading
 notify_of s v =
-    cond (not (notify_complete v)) (Refused ObjectCount 0 v.headers)
-    (cond (not (is_call_request s v.status.at v.error.at)) (Unfit NotCallRequest (sender_at s v.template.at) v.headers)
-    (cond (bad_identity s (closes_at s v.status.at) v.session.at v.attribute.at) (Unfit CallIdentity (sender_at s v.template.at) v.headers)
+    cond (not (notify_complete v)) (refused ObjectCount 0 v.headers)
+    (cond (not (is_call_request s v.status.at v.error.at)) (unfit NotCallRequest (sender_at s v.template.at) v.headers)
+    (cond (bad_identity s (closes_at s v.status.at) v.session.at v.attribute.at) (unfit CallIdentity (sender_at s v.template.at) v.headers)
     (cond (closes_at s v.status.at)
-    (Read (Close (request_at s v.session.at v.template.at v.identifier.at v.attribute.at)) v.headers)
-    (Read (Open (request_at s v.session.at v.template.at v.identifier.at v.attribute.at)) v.headers))))
+    (received (Close (request_at s v.session.at v.template.at v.identifier.at v.attribute.at)) v.headers)
+    (received (Open (request_at s v.session.at v.template.at v.identifier.at v.attribute.at)) v.headers))))
 
 -- a Path, which adds a connection, or a PathTear, which drops one
 unfoldable pub path_of : List ℕ → Objects → Bool → Reading
 path_of s v adds =
-    cond (not (path_complete v)) (Refused ObjectCount 0 v.headers)
+    cond (not (path_complete v)) (refused ObjectCount 0 v.headers)
     (cond adds
-    (Read (Add (connection_in s v.session.at v.template.at)) v.headers)
-    (Read (Drop (connection_in s v.session.at v.template.at)) v.headers))
+    (received (Add (connection_in s v.session.at v.template.at)) v.headers)
+    (received (Drop (connection_in s v.session.at v.template.at)) v.headers))
 
 -- a message whose objects have all been walked over
 abbrev pub objects_read : List ℕ → MessageType → Objects → Reading
@@ -68,12 +81,12 @@ objects_read s PathTear v = path_of s v false
 objects_read s Notify v = notify_of s v
 
 abbrev pub walked_read : List ℕ → MessageType → Walked → Reading
-walked_read s mtype (Stopped fault offset headers) = Refused fault offset headers
-walked_read s mtype (Finished v) = objects_read s mtype v
+walked_read s mtype (Err stop) = refused stop.fault stop.offset stop.headers
+walked_read s mtype (Ok v) = objects_read s mtype v
 
 abbrev pub header_read : List ℕ → Header → Reading
-header_read s (Bad fault) = Refused fault 0 0
-header_read s (Good mtype) = walked_read s mtype (walk_of s)
+header_read s (Err fault) = refused fault 0 0
+header_read s (Ok mtype) = walked_read s mtype (walk_of s)
 
 unfoldable pub read_of : List ℕ → Reading
 read_of s = header_read s (header_of s)

@@ -14,12 +14,6 @@ pub enum MessageType {
     Notify,
 }
 
-#[derive(Clone, Copy)]
-pub enum Header {
-    Bad(Fault),
-    Good(MessageType),
-}
-
 fn bad_message_length(s: &[u8]) -> bool
     ensures { result ≡ bad_message_length s.now }
 {
@@ -27,7 +21,7 @@ fn bad_message_length(s: &[u8]) -> bool
     if n < 8 {
         return true;
     }
-    let len = get16(s, 6) as usize;
+    let len = usize::from(get16(s, 6));
     (1024 < n) | (n % 4 != 0) | (len != n)
 }
 
@@ -42,32 +36,32 @@ fn checksum_holds(s: &[u8]) -> bool
     words_sum(s) == 65535
 }
 
-fn type_of(number: u8) -> Header
-    ensures { result ≡ type_of number }
-{
-    if number == 1 {
-        return Header::Good(MessageType::Path);
+impl TryFrom<u8> for MessageType {
+    type Error = Fault;
+
+    ghost try_from_gives = { λ number r. r ≡ type_of number };
+
+    fn try_from(number: u8) -> Result<MessageType, Fault> {
+        match number {
+            1 => Ok(MessageType::Path),
+            5 => Ok(MessageType::PathTear),
+            21 => Ok(MessageType::Notify),
+            _ => Err(Fault::MessageType),
+        }
     }
-    if number == 5 {
-        return Header::Good(MessageType::PathTear);
-    }
-    if number == 21 {
-        return Header::Good(MessageType::Notify);
-    }
-    Header::Bad(Fault::MessageType)
 }
 
-pub fn read_header(s: &[u8]) -> Header
+pub fn read_header(s: &[u8]) -> Result<MessageType, Fault>
     ensures { result ≡ header_of s.now }
 {
     if bad_message_length(s) {
-        return Header::Bad(Fault::MessageLength);
+        return Err(Fault::MessageLength);
     }
     if s[0] / 16 != 1 {
-        return Header::Bad(Fault::Version);
+        return Err(Fault::Version);
     }
     if !checksum_holds(s) {
-        return Header::Bad(Fault::Checksum);
+        return Err(Fault::Checksum);
     }
-    type_of(s[1])
+    MessageType::try_from(s[1])
 }

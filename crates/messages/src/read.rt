@@ -2,24 +2,33 @@
 ghost use Rattle.std.specs.Prelude.{◌≡◌, true, false, ◌+◌, ◌≤◌, length};
 ghost use Rattle.objects.specs.Forms.{name_length};
 ghost use Rattle.objects.specs.Placed.{Placed};
+ghost use Rattle.messages.specs.declared.read.Refusal.TheVariants.{Misformed};
 ghost use Rattle.messages.specs.Fields.{long_size, connection_in, request_at};
 ghost use Rattle.messages.specs.Counts.{notify_complete, path_complete};
 ghost use Rattle.messages.specs.Read.{is_call_request, bad_identity, notify_of, path_of, objects_read, read_of};
 
-use crate::header::{Header, MessageType, read_header};
+use crate::header::{MessageType, read_header};
 use crate::message::{CallRequest, Connection, Lsp, Message};
 use crate::status::{C, D, R, bit_set};
 use numbers::big_endian::{get16, get24, get32};
 use numbers::search::unpadded;
 use objects::fault::Fault;
 use objects::fields::{CallId, LspId, MessageId, Part, TunnelId};
-use objects::walk::{Objects, Walked, walk};
+use objects::walk::{Objects, Stopped, walk};
 
-// What a message of any bytes is read as. `headers` counts the object headers read, 0 before the walk.
+// A message that is read. `headers` counts the object headers read, here and below.
 #[derive(Clone, Copy)]
-pub enum Reading {
-    // Refused by a test from 3 to 10; the faulty object's place, 0 where no one object is at fault.
-    Refused {
+pub struct Received {
+    pub message: Message,
+    pub headers: usize,
+}
+
+// Why a message of any bytes is none.
+#[derive(Clone, Copy)]
+pub enum Refusal {
+    // By a test from 3 to 10; the faulty object's place, 0 where no one object is at fault.
+    // Kept: 0, and no Option, as `RefusedAt` says it of every refusal.
+    Misformed {
         fault: Fault,
         offset: usize,
         headers: usize,
@@ -30,10 +39,31 @@ pub enum Reading {
         sender: u32,
         headers: usize,
     },
-    Read {
-        message: Message,
-        headers: usize,
-    },
+}
+
+// A fault of the header: no object is read.
+impl From<Fault> for Refusal {
+    ghost from_gives = { λ fault r. r ≡ Misformed fault 0 0 };
+
+    fn from(fault: Fault) -> Refusal {
+        Refusal::Misformed {
+            fault,
+            offset: 0,
+            headers: 0,
+        }
+    }
+}
+
+impl From<Stopped> for Refusal {
+    ghost from_gives = { λ stop r. r ≡ Misformed stop.fault stop.offset stop.headers };
+
+    fn from(stop: Stopped) -> Refusal {
+        Refusal::Misformed {
+            fault: stop.fault,
+            offset: stop.offset,
+            headers: stop.headers,
+        }
+    }
 }
 
 // Every object of the table once, but for MESSAGE_ID_ACK, which is only written.
@@ -114,7 +144,7 @@ fn request_at(
         },
         attribute: Part {
             at: attribute,
-            size: get16(s, attribute) as usize,
+            size: usize::from(get16(s, attribute)),
         },
         template: Part {
             at: template,
@@ -123,18 +153,12 @@ fn request_at(
     }
 }
 
-fn to_usize(b: u8) -> usize
-    ensures { result ≡ b }
-{
-    b as usize
-}
-
 // The size of the long Call ID: the session name without the zeros at its end.
 fn long_size(s: &[u8], attribute: usize) -> usize
     requires { attribute + 8 + name_length s.now attribute ≤ length s.now }
     ensures { result ≡ long_size s.now attribute }
 {
-    let name = to_usize(s[attribute + 7]);
+    let name = usize::from(s[attribute + 7]);
     unpadded(s, attribute + 8, name)
 }
 
@@ -167,17 +191,17 @@ fn bad_identity(s: &[u8], closes: bool, session: usize, attribute: usize) -> boo
     (call == 0) | (long_size(s, attribute) == 0)
 }
 
-fn read_notify(s: &[u8], v: Objects) -> Reading
+fn read_notify(s: &[u8], v: Objects) -> Result<Received, Refusal>
     requires { Placed s.now v }
     ensures { result ≡ notify_of s.now v }
 {
     let headers = v.headers;
     if !notify_complete(v) {
-        return Reading::Refused {
+        return Err(Refusal::Misformed {
             fault: Fault::ObjectCount,
             offset: 0,
             headers,
-        };
+        });
     }
     let session = v.session.at;
     let template = v.template.at;
@@ -185,101 +209,76 @@ fn read_notify(s: &[u8], v: Objects) -> Reading
     let attribute = v.attribute.at;
     let sender = get32(s, template + 4);
     if !is_call_request(s, status, v.error.at) {
-        return Reading::Unfit {
+        return Err(Refusal::Unfit {
             fault: Fault::NotCallRequest,
             sender,
             headers,
-        };
+        });
     }
     let closes = bit_set(D, get32(s, status + 4));
     if bad_identity(s, closes, session, attribute) {
-        return Reading::Unfit {
+        return Err(Refusal::Unfit {
             fault: Fault::CallIdentity,
             sender,
             headers,
-        };
+        });
     }
     let request = request_at(s, session, template, v.identifier.at, attribute);
     if closes {
-        return Reading::Read {
+        return Ok(Received {
             message: Message::Close(request),
             headers,
-        };
+        });
     }
-    Reading::Read {
+    Ok(Received {
         message: Message::Open(request),
         headers,
-    }
+    })
 }
 
 // A Path adds a connection, and a PathTear drops one.
-fn read_path(s: &[u8], v: Objects, adds: bool) -> Reading
+// Kept: a truth value, as `path_of` has it: one call of this serves both, so that it is inlined.
+fn read_path(s: &[u8], v: Objects, adds: bool) -> Result<Received, Refusal>
     requires { Placed s.now v }
     ensures { result ≡ path_of s.now v adds }
 {
     let headers = v.headers;
     if !path_complete(v) {
-        return Reading::Refused {
+        return Err(Refusal::Misformed {
             fault: Fault::ObjectCount,
             offset: 0,
             headers,
-        };
+        });
     }
     let connection = connection_at(s, v.session.at, v.template.at);
     if adds {
-        return Reading::Read {
+        return Ok(Received {
             message: Message::Add(connection),
             headers,
-        };
+        });
     }
-    Reading::Read {
+    Ok(Received {
         message: Message::Drop(connection),
         headers,
-    }
-}
-
-fn adds(mtype: MessageType) -> bool
-    ensures { (mtype ≡ MessageType.Path → result ≡ true) × (mtype ≡ MessageType.PathTear → result ≡ false) }
-{
-    match mtype {
-        MessageType::Path => true,
-        MessageType::PathTear => false,
-        MessageType::Notify => false,
-    }
+    })
 }
 
 // One call of `read_path` for both kinds, so that it is inlined and what the walk has seen stays in registers.
-fn read_objects(s: &[u8], mtype: MessageType, v: Objects) -> Reading
+fn read_objects(s: &[u8], mtype: MessageType, v: Objects) -> Result<Received, Refusal>
     requires { Placed s.now v }
     ensures { result ≡ objects_read s.now mtype v }
 {
     if let MessageType::Notify = mtype {
         return read_notify(s, v);
     }
-    read_path(s, v, adds(mtype))
+    read_path(s, v, matches!(mtype, MessageType::Path))
 }
 
 // Reads a message of any bytes: tests 3 to 10, 12 and 13.
-pub fn read(s: &[u8]) -> Reading
+pub fn read(s: &[u8]) -> Result<Received, Refusal>
     ensures { result ≡ read_of s.now }
 {
-    match read_header(s) {
-        Header::Bad(fault) => Reading::Refused {
-            fault,
-            offset: 0,
-            headers: 0,
-        },
-        Header::Good(mtype) => match walk(s) {
-            Walked::Stopped {
-                fault,
-                offset,
-                headers,
-            } => Reading::Refused {
-                fault,
-                offset,
-                headers,
-            },
-            Walked::Finished(v) => read_objects(s, mtype, v),
-        },
-    }
+    let mtype = read_header(s)?;
+    let v = walk(s)?;
+    read_objects(s, mtype, v)
 }

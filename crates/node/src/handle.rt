@@ -1,6 +1,6 @@
 // One message of any bytes.
 ghost use Rattle.std.specs.Prelude.{◌≡◌, true, ◌≤◌, ◌<◌, length};
-ghost use Rattle.messages.specs.Inside.{CallInside, Inside};
+ghost use Rattle.messages.specs.Inside.{Inside};
 ghost use Rattle.messages.specs.declared.message.Message.TheVariants.{Open};
 ghost use Rattle.reply_objects.specs.Buffer.{least_buffer};
 ghost use Rattle.table.specs.Lists.{roster};
@@ -23,9 +23,10 @@ use answers::answer::Answer;
 use expiry::{Closings, elapse};
 use find_call::late::is_late;
 use find_call::share::{Listing, listing_of};
-use messages::message::{CallRequest, Message};
-use messages::read::{Reading, read};
+use messages::message::Message;
+use messages::read::{Received, Refusal, read};
 use outcomes::outcome::{Outcome, unanswered};
+use outcomes::request::Request;
 use reply_objects::LEAST_BUFFER;
 use rules::rules_hold;
 use table::layout::Words;
@@ -43,14 +44,16 @@ fn sender_of(m: Message) -> u32
 }
 
 // An open with names, or without (02, A6). Here and below, the sender was looked up and is listed.
-fn open(t: &mut Words, msg: &[u8], q: CallRequest, listing: Listing, reply: &mut [u8]) -> Outcome
-    requires { (rules_hold (table_of t.old) ≡ true) × (is_listed (roster (table_of t.old)) q.sender ≡ true) × CallInside msg.now q × (least_buffer ≤ length reply.old) × ListingOf (table_of t.old) q.sender listing }
-    ensures { handed_back result (table_of t.new) reply.new ≡ ruled (table_of t.old) msg.now reply.old (Open q) }
+// Kept: that, the table's rules and the buffer's room stand in each contract: table and buffer are C's plain memory, and a
+// type that promised the rules of a table would be broken and made again by each change of it (`opened`, `freed`).
+fn open(t: &mut Words, r: Request, listing: Listing, reply: &mut [u8]) -> Outcome
+    requires { (rules_hold (table_of t.old) ≡ true) × (is_listed (roster (table_of t.old)) r.q.sender ≡ true) × (least_buffer ≤ length reply.old) × ListingOf (table_of t.old) r.q.sender listing }
+    ensures { handed_back result (table_of t.new) reply.new ≡ ruled (table_of t.old) r.entry.msg.now reply.old (Open r.entry.q) }
 {
-    if q.name.size == 0 {
-        return open_nameless(t, msg, q, listing, reply);
+    if r.q.name.size == 0 {
+        return open_nameless(t, r, listing, reply);
     }
-    open_call(t, msg, q, listing, reply)
+    open_call(t, r, listing, reply)
 }
 
 // A message of no fault, by its kind.
@@ -65,8 +68,8 @@ fn handle_message(
     ensures { handed_back result (table_of t.new) reply.new ≡ ruled (table_of t.old) msg.now reply.old m }
 {
     match m {
-        Message::Open(q) => open(t, msg, q, listing, reply),
-        Message::Close(q) => close_call(t, msg, q, reply),
+        Message::Open(q) => open(t, Request { msg, q }, listing, reply),
+        Message::Close(q) => close_call(t, Request { msg, q }, reply),
         Message::Add(c) => add_connection(t, msg, c, reply),
         Message::Drop(c) => drop_connection(t, c, reply),
     }
@@ -123,36 +126,26 @@ fn handle_checked(t: &mut Words, msg: &[u8], reply: &mut [u8]) -> Outcome
     requires { (rules_hold (table_of t.old) ≡ true) × (least_buffer ≤ length reply.old) }
     ensures { handed_back result (table_of t.new) reply.new ≡ answered_in (table_of t.old) msg.now reply.old }
 {
-    let x = read(msg);
-    match x {
-        Reading::Refused {
-            fault,
-            offset,
-            headers,
-        } => unanswered(Answer::Malformed(fault)),
-        Reading::Unfit {
-            fault,
-            sender,
-            headers,
-        } => {
-            let known = listing_of(t, sender);
-            if known.known {
+    match read(msg) {
+        Err(Refusal::Misformed { fault, .. }) => unanswered(Answer::Malformed(fault)),
+        Err(Refusal::Unfit { fault, sender, .. }) => {
+            if listing_of(t, sender).is_some() {
                 return unanswered(Answer::Malformed(fault));
             }
             unanswered(Answer::SenderNotListed)
         }
-        Reading::Read { message, headers } => {
-            let known = listing_of(t, sender_of(message));
-            if known.known {
-                return handle_listed(t, msg, message, known, reply);
-            }
-            unanswered(Answer::SenderNotListed)
+        Ok(Received { message, .. }) => {
+            let Some(listing) = listing_of(t, sender_of(message)) else {
+                return unanswered(Answer::SenderNotListed);
+            };
+            handle_listed(t, msg, message, listing, reply)
         }
     }
 }
 
 // What handling a message gives back: the answer, the reply's length, 0 where none is sent, and how many calls were closed
 // before the message.
+// Kept: 0, and no Option, as in `Outcome`.
 #[derive(Clone, Copy)]
 pub struct Handling {
     pub answer: Answer,

@@ -8,7 +8,7 @@ use crate::big_endian::get16;
 fn add_round(a: u16, b: u16) -> u16
     ensures { result ≡ all_round (a + b) }
 {
-    let sum = std::num::wrapping_add_u16(a, b);
+    let sum = a.wrapping_add(b);
     if sum < a {
         return sum + 1;
     }
@@ -24,10 +24,8 @@ pub fn first_words_sum(s: &[u8], n: usize) -> u16
     ensures { result ≡ sum_so_far s.now n }
 {
     let mut sum: u16 = 0;
-    let mut k: usize = 0;
-    while k < n {
+    for k in 0..n {
         sum = add_round(sum, get16(s, 2 * k));
-        k += 1;
     }
     sum
 }

@@ -7,13 +7,10 @@ pub fn zeros(s: &[u8], at: usize, n: usize) -> bool
     requires { at + n ≤ length s.now }
     ensures { result ≡ zeros_at s.now at n }
 {
-    let mut i = at;
-    let end = at + n;
-    while i < end {
+    for i in at..at + n {
         if s[i] != 0 {
             return false;
         }
-        i += 1;
     }
     true
 }
@@ -23,13 +20,10 @@ pub fn unpadded(s: &[u8], at: usize, n: usize) -> usize
     requires { at + n ≤ length s.now }
     ensures { result ≡ unpadded s.now at n }
 {
-    let mut k = n;
-    while 0 < k {
-        let last = k - 1;
-        if s[at + last] != 0 {
-            return k;
+    for k in (0..n).rev() {
+        if s[at + k] != 0 {
+            return k + 1;
         }
-        k = last;
     }
     0
 }

@@ -11,12 +11,11 @@ use borrow.Author.Tests.{eqb-true, not-false}
 use Rattle.numbers.specs.BigEndian.{be16_at}
 use Rattle.numbers.specs.Search.{is_in, zeros_at}
 use Rattle.objects.specs.declared.object.Object.{Object}
-use Rattle.objects.specs.declared.object.Item.{Item}
-use Rattle.objects.specs.declared.object.Item.TheVariants.{End, Faulty, Found}
+use Rattle.objects.specs.Item.{Item}
+use Rattle.std.specs.Prelude.{Some, None, Ok, Err}
 use Rattle.objects.specs.declared.walk.Seen.{Seen}
 use Rattle.objects.specs.declared.walk.Objects.{Objects}
-use Rattle.objects.specs.declared.walk.Walked.{Walked}
-use Rattle.objects.specs.declared.walk.Walked.TheVariants.{Finished}
+use Rattle.objects.specs.Walk.{Walked}
 use Rattle.objects.specs.Classes.{session, error_spec, sender_template, message_id, admin_status, session_attribute, passed_over}
 use Rattle.objects.specs.Forms.{has_form, name_length, rounded_up_to4, attribute_formed, formed, misformed}
 use Rattle.objects.specs.Item.{item_at}
@@ -27,11 +26,11 @@ use Rattle.objects.proofs.Steps.{found_at}
 -- each object read is the one that stands at its place
 abbrev AllFound : List ℕ → List Object → Type 0
 AllFound s [] = Unit {0}
-AllFound s (o ∷ read) = (item_at s o.at ≡ Found o) × AllFound s read
+AllFound s (o ∷ read) = (item_at s o.at ≡ Ok (Some o)) × AllFound s read
 
 -- what is said of a class is said of an object of that class, at its place
 abbrev StandsAt : List ℕ → ℕ → Seen → Type 0
-StandsAt s class v = (o : Object) × (item_at s o.at ≡ Found o) × (o.class ≡ class) × (v.at ≡ o.at)
+StandsAt s class v = (o : Object) × (item_at s o.at ≡ Ok (Some o)) × (o.class ≡ class) × (v.at ≡ o.at)
 
 seen_found : (s : List ℕ) (class : ℕ) (read : List Object) → AllFound s read → 0 < (seen class read).times → StandsAt s class (seen class read)
 unfolding seen
@@ -95,25 +94,25 @@ module _ (s : List ℕ) (read : List Object) (all : AllFound s read) where
     attribute = name_reaches;
   }
 
-same : (v w : Objects) → Finished v ≡ Finished w → v ≡ w
+same : (v w : Objects) → ◌≡◌ {A = Walked} (Ok v) (Ok w) → v ≡ w
 same v w e = cc
 
 -- one step, with what the rest of the walk keeps
 step : (s : List ℕ) (at : ℕ) (read : List Object) (v : Objects) (rest : ℕ → List Object → Walked)
-    → ((at' : ℕ) (read' : List Object) → AllFound s read' → rest at' read' ≡ Finished v → Placed s v)
-    → AllFound s read → (i : Item) → item_at s at ≡ i → on_item i at read rest ≡ Finished v → Placed s v
-step s at read v rest keep all End e d = subst (Placed s) (same _ v d) (placed s read all)
-step s at read v rest keep all (Faulty fault) e d = let z : ◌≡◌ {A = ℕ} 0 1 = cc in absurd (omega arith)
-step s at read v rest keep all (Found o) e d =
+    → ((at' : ℕ) (read' : List Object) → AllFound s read' → rest at' read' ≡ Ok v → Placed s v)
+    → AllFound s read → (i : Item) → item_at s at ≡ i → on_item i at read rest ≡ Ok v → Placed s v
+step s at read v rest keep all (Ok None) e d = subst (Placed s) (same _ v d) (placed s read all)
+step s at read v rest keep all (Err fault) e d = let z : ◌≡◌ {A = ℕ} 0 1 = cc in absurd (omega arith)
+step s at read v rest keep all (Ok (Some o)) e d =
     let f = found_at s at o e in
-    let here : item_at s o.at ≡ Found o = ap (item_at s) (sym (ap (λ (p : Object). p.at) f.is)) ∙ e in
+    let here : item_at s o.at ≡ Ok (Some o) = ap (item_at s) (sym (ap (λ (p : Object). p.at) f.is)) ∙ e in
     keep (at + o.len) (o ∷ read) (here, all) d
 
-placed_from : (n : ℕ) (s : List ℕ) (at : ℕ) (read : List Object) (v : Objects) → AllFound s read → walk_from n s at read ≡ Finished v → Placed s v
+placed_from : (n : ℕ) (s : List ℕ) (at : ℕ) (read : List Object) (v : Objects) → AllFound s read → walk_from n s at read ≡ Ok v → Placed s v
 unfolding walk_from
 placed_from zero s at read v all e = subst (Placed s) (same _ v e) (placed s read all)
 placed_from (suc n) s at read v all e = step s at read v (walk_from n s) (λ at' read'. placed_from n s at' read' v) all (item_at s at) refl e
 
-pub walk_placed : (s : List ℕ) (v : Objects) → walk_of s ≡ Finished v → Placed s v
+pub walk_placed : (s : List ℕ) (v : Objects) → walk_of s ≡ Ok v → Placed s v
 unfolding walk_of
 walk_placed s v e = placed_from (length s) s 8 [] v tt e

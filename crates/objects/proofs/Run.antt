@@ -16,7 +16,7 @@ use Rattle.numbers.specs.Search.{is_in}
 use Rattle.lists.specs.Below.{every_below}
 use Rattle.lists.proofs.Tests.{both}
 use Rattle.objects.specs.declared.object.Object.{Object}
-use Rattle.objects.specs.declared.object.Item.TheVariants.{Found}
+use Rattle.std.specs.Prelude.{Some, Ok}
 use Rattle.objects.specs.declared.walk.Objects.{Objects}
 use Rattle.objects.specs.Classes.{session, error_spec, sender_template, message_id, admin_status, session_attribute, read_classes, passed_over, refused_class}
 use Rattle.objects.specs.Forms.{misformed}
@@ -40,7 +40,7 @@ like_at s at o e =
 
 -- an object whose length is right and whose class is passed over is found, whatever else it holds
 over_found : (s : List ℕ) (at : ℕ) → 4 ≤ be16_at s at → be16_at s at % 4 ≡ 0 → at + be16_at s at ≤ length s → passed_over (get_or s (at + 2) 0) ≡ true
-    → item_at s at ≡ Found (object_at s at)
+    → item_at s at ≡ Ok (Some (object_at s at))
 unfolding item_at bad_length refused_class misformed
 over_found s at header fours fits over =
     rw (
@@ -85,7 +85,7 @@ one_header o v over =
 
 -- a run behind an object that is passed over: the walk comes to its end with so many headers more
 module _ (s : List ℕ) (o : Object) (header : 4 ≤ o.len) (fours : o.len % 4 ≡ 0) (over : passed_over o.class ≡ true) where
-  like_found : (at : ℕ) → is_like s at o ≡ true → item_at s at ≡ Found (object_at s at)
+  like_found : (at : ℕ) → is_like s at o ≡ true → item_at s at ≡ Ok (Some (object_at s at))
   like_found at e =
       let l = like_at s at o e in
       over_found s at (rw l.long header) (rw l.long fours) (rw l.long l.fits) (rw l.class over)

@@ -13,9 +13,9 @@ use Rattle.numbers.specs.BigEndian.{be16_at}
 use Rattle.objects.specs.declared.fault.Fault.{Fault}
 use Rattle.objects.specs.declared.fault.Fault.TheVariants.{ObjectLength, ObjectClass, ObjectForm}
 use Rattle.objects.specs.declared.object.Object.{Object}
-use Rattle.objects.specs.declared.object.Item.TheVariants.{End, Faulty, Found}
+use Rattle.std.specs.Prelude.{Some, None, Ok, Err}
 use Rattle.objects.specs.declared.walk.Objects.{Objects}
-use Rattle.objects.specs.declared.walk.Walked.TheVariants.{Stopped, Finished}
+use Rattle.objects.specs.Walk.{stopped_at}
 use Rattle.objects.specs.Classes.{session, error_spec, sender_template, message_id, admin_status, session_attribute, refused_class}
 use Rattle.objects.specs.Forms.{misformed}
 use Rattle.objects.specs.Item.{object_at, bad_length, item_at}
@@ -38,12 +38,12 @@ good_length s at e = by (ltb (length s - at) 4) (ltb (be16_at s at) 4) (not (eqb
         let l : be16_at s at ≤ length s - at = ltb-false _ _ r in
         (omega arith, omega arith, eqb-true _ _ (not-false _ m))
 
-no_object : {P : Type 0} {fault : Fault} {o : Object} → Faulty fault ≡ Found o → P
+no_object : {P : Type 0} {fault : Fault} {o : Object} → Err fault ≡ Ok (Some o) → P
 no_object e = let z : ◌≡◌ {A = ℕ} 0 1 = cc in absurd (omega arith)
 
 -- the choices of `item_at`, where an object came out
 came : (a b d f : Bool) (p o : Object)
-    → cond a End (cond b (Faulty ObjectLength) (cond d (Faulty ObjectClass) (cond f (Faulty ObjectForm) (Found p)))) ≡ Found o
+    → cond a (Ok None) (cond b (Err ObjectLength) (cond d (Err ObjectClass) (cond f (Err ObjectForm) (Ok (Some p))))) ≡ Ok (Some o)
     → (b ≡ false) × (f ≡ false) × (p ≡ o)
 came true b d f p o e = let z : ◌≡◌ {A = ℕ} 0 1 = cc in absurd (omega arith)
 came false true d f p o e = no_object e
@@ -59,7 +59,7 @@ pub record FoundAt (s : List ℕ) (at : ℕ) (o : Object) : Type 0 where
   pub fours : o.len % 4 ≡ 0
   pub form : misformed s o ≡ false
 
-pub found_at : (s : List ℕ) (at : ℕ) (o : Object) → item_at s at ≡ Found o → FoundAt s at o
+pub found_at : (s : List ℕ) (at : ℕ) (o : Object) → item_at s at ≡ Ok (Some o) → FoundAt s at o
 unfolding item_at
 found_at s at o e =
     let w = came (leb (length s) at) (bad_length s at) (refused_class (get_or s (at + 2) 0)) (misformed s (object_at s at)) (object_at s at) o e in
@@ -90,7 +90,7 @@ grown o read = ap (λ (n : ℕ). record {
   headers = n;
 }) (add-one (length read))
 
-past : (s : List ℕ) (at : ℕ) → length s ≤ at → item_at s at ≡ End
+past : (s : List ℕ) (at : ℕ) → length s ≤ at → item_at s at ≡ (Ok None)
 unfolding item_at
 past s at h = rw (le-leb _ _ h)
 
@@ -118,23 +118,23 @@ module _ (s : List ℕ) (v : Objects) (at : ℕ) (w : Walking s v at) where
       below : (class : ℕ) → (seen class w.read).times < at
       below class = omega (arith, seen_times class w.read)
 
-  pub ended : item_at s at ≡ End → Finished v ≡ walk_of s
+  pub ended : item_at s at ≡ (Ok None) → Ok v ≡ walk_of s
   unfolding walk_from
-  ended e = ap Finished w.sees ∙ by w.left w.rest
+  ended e = ap Ok w.sees ∙ by w.left w.rest
     where
-      by : (n : ℕ) → walk_from n s at w.read ≡ walk_of s → Finished (objects_of w.read) ≡ walk_of s
+      by : (n : ℕ) → walk_from n s at w.read ≡ walk_of s → Ok (objects_of w.read) ≡ walk_of s
       by zero k = k
       by (suc n) k = rw e at k
 
-  pub stopped : (fault : Fault) → item_at s at ≡ Faulty fault → Stopped fault at (v.headers + 1) ≡ walk_of s
+  pub stopped : (fault : Fault) → item_at s at ≡ Err fault → stopped_at fault at (v.headers + 1) ≡ walk_of s
   unfolding walk_from objects_of
   stopped fault e = rw w.sees (by w.left w.enough w.rest)
     where
-      by : (n : ℕ) → length s ≤ at + n → walk_from n s at w.read ≡ walk_of s → Stopped fault at (length w.read + 1) ≡ walk_of s
+      by : (n : ℕ) → length s ≤ at + n → walk_from n s at w.read ≡ walk_of s → stopped_at fault at (length w.read + 1) ≡ walk_of s
       by zero h k = let d = past s at (omega arith) in let z : ◌≡◌ {A = ℕ} 0 1 = cc in absurd (omega arith)
       by (suc n) h k = rw e at k
 
-  pub onward : (o : Object) → item_at s at ≡ Found o → Walking s (with_object o v) (at + o.len)
+  pub onward : (o : Object) → item_at s at ≡ Ok (Some o) → Walking s (with_object o v) (at + o.len)
   unfolding walk_from
   onward o e = by w.left w.enough w.rest
     where

@@ -1,11 +1,10 @@
 -- What stands at a place of a message: nothing more, an object, or a faulty one, with 7 tested before 8 before 9 (01,
 -- Every answer).
-use Rattle.std.specs.Prelude.{ℕ, ◌+◌, ◌-◌, ◌%◌, List, Bool, cond, not, ◌||◌, length, get_or, leb, ltb, eqb}
+use Rattle.std.specs.Prelude.{ℕ, ◌+◌, ◌-◌, ◌%◌, List, Bool, Option, None, Some, Result, Ok, Err, cond, not, ◌||◌, length, get_or, leb, ltb, eqb}
 use Rattle.numbers.specs.BigEndian.{be16_at}
+use Rattle.objects.specs.declared.fault.Fault.{Fault}
 use Rattle.objects.specs.declared.fault.Fault.TheVariants.{ObjectLength, ObjectClass, ObjectForm}
 use Rattle.objects.specs.declared.object.Object.{Object}
-use Rattle.objects.specs.declared.object.Item.{Item}
-use Rattle.objects.specs.declared.object.Item.TheVariants.{End, Faulty, Found}
 use Rattle.objects.specs.Classes.{refused_class}
 use Rattle.objects.specs.Forms.{misformed}
 
@@ -19,10 +18,14 @@ bad_length s at =
     ltb (length s - at) 4
     || (ltb (be16_at s at) 4 || not (eqb (be16_at s at % 4) 0) || ltb (length s - at) (be16_at s at))
 
+-- what stands at a place: an object or none, or a fault
+abbrev pub Item : Type 0
+Item = Result (Option Object) Fault
+
 unfoldable pub item_at : List ℕ → ℕ → Item
 item_at s at =
-    cond (leb (length s) at) End
-    (cond (bad_length s at) (Faulty ObjectLength)
-    (cond (refused_class (get_or s (at + 2) 0)) (Faulty ObjectClass)
-    (cond (misformed s (object_at s at)) (Faulty ObjectForm)
-    (Found (object_at s at)))))
+    cond (leb (length s) at) (Ok None)
+    (cond (bad_length s at) (Err ObjectLength)
+    (cond (refused_class (get_or s (at + 2) 0)) (Err ObjectClass)
+    (cond (misformed s (object_at s at)) (Err ObjectForm)
+    (Ok (Some (object_at s at))))))

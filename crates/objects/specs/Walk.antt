@@ -1,14 +1,12 @@
 -- The walk over a message's objects, front to back, from place 8; the first faulty one decides (01, Every answer).
-use Rattle.std.specs.Prelude.{ℕ, zero, suc, ◌+◌, List, [], ◌∷◌, cond, length, eqb}
+use Rattle.std.specs.Prelude.{ℕ, zero, suc, ◌+◌, List, [], ◌∷◌, None, Some, Result, Ok, Err, cond, length, eqb}
+use Rattle.objects.specs.declared.fault.Fault.{Fault}
 use Rattle.objects.specs.declared.object.Object.{Object}
-use Rattle.objects.specs.declared.object.Item.{Item}
-use Rattle.objects.specs.declared.object.Item.TheVariants.{End, Faulty, Found}
 use Rattle.objects.specs.declared.walk.Seen.{Seen}
 use Rattle.objects.specs.declared.walk.Objects.{Objects}
-use Rattle.objects.specs.declared.walk.Walked.{Walked}
-use Rattle.objects.specs.declared.walk.Walked.TheVariants.{Stopped, Finished}
+use Rattle.objects.specs.declared.walk.Stopped.{Stopped}
 use Rattle.objects.specs.Classes.{session, error_spec, sender_template, message_id, admin_status, session_attribute}
-use Rattle.objects.specs.Item.{item_at}
+use Rattle.objects.specs.Item.{Item, item_at}
 
 -- what is seen of a class after one more object
 abbrev pub seen_with : ℕ → Object → Seen → Seen
@@ -43,15 +41,23 @@ objects_of read = record {
   headers = length read;
 }
 
+-- what a walk gives: what it has seen, or where it stopped_at
+abbrev pub Walked : Type 0
+Walked = Result Objects Stopped
+
+-- a walk that stops, at a faulty object's place, with so many headers read, the faulty one's among them
+abbrev pub stopped_at : Fault → ℕ → ℕ → Walked
+stopped_at fault at headers = Err (record { fault = fault; offset = at; headers = headers })
+
 -- how the walk goes on from a place, with the objects read before it: to its end, to a fault, or behind one more object
 abbrev pub on_item : Item → ℕ → List Object → (ℕ → List Object → Walked) → Walked
-on_item End at read rest = Finished (objects_of read)
-on_item (Faulty fault) at read rest = Stopped fault at (length read + 1)
-on_item (Found o) at read rest = rest (at + o.len) (o ∷ read)
+on_item (Ok None) at read rest = Ok (objects_of read)
+on_item (Err fault) at read rest = stopped_at fault at (length read + 1)
+on_item (Ok (Some o)) at read rest = rest (at + o.len) (o ∷ read)
 
 -- the walk from a place; a message has no more objects than bytes, so its length bounds the recursion
 unfoldable pub walk_from : ℕ → List ℕ → ℕ → List Object → Walked
-walk_from zero s at read = Finished (objects_of read)
+walk_from zero s at read = Ok (objects_of read)
 walk_from (suc n) s at read = on_item (item_at s at) at read (walk_from n s)
 
 unfoldable pub walk_of : List ℕ → Walked

@@ -22,19 +22,21 @@ pub enum Fault {
 }
 
 // The number that document 01 gives the answer.
-pub fn number(f: Fault) -> u8
-    ensures { result ≡ fault_number f }
-{
-    match f {
-        Fault::MessageLength => 3,
-        Fault::Version => 4,
-        Fault::Checksum => 5,
-        Fault::MessageType => 6,
-        Fault::ObjectLength => 7,
-        Fault::ObjectClass => 8,
-        Fault::ObjectForm => 9,
-        Fault::ObjectCount => 10,
-        Fault::NotCallRequest => 12,
-        Fault::CallIdentity => 13,
+impl From<Fault> for u8 {
+    ghost from_gives = { λ f number. number ≡ fault_number f };
+
+    fn from(f: Fault) -> u8 {
+        match f {
+            Fault::MessageLength => 3,
+            Fault::Version => 4,
+            Fault::Checksum => 5,
+            Fault::MessageType => 6,
+            Fault::ObjectLength => 7,
+            Fault::ObjectClass => 8,
+            Fault::ObjectForm => 9,
+            Fault::ObjectCount => 10,
+            Fault::NotCallRequest => 12,
+            Fault::CallIdentity => 13,
+        }
     }
 }

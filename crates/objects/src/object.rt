@@ -9,6 +9,7 @@ use crate::fault::Fault;
 use numbers::big_endian::get16;
 use numbers::search::zeros;
 
+// Kept: a class is its number, and no enum: any of 256 may come, and those passed over are ranges (`passed_over`).
 pub const SESSION: u8 = 1;
 
 pub const ERROR_SPEC: u8 = 6;
@@ -30,14 +31,6 @@ pub struct Object {
     pub ctype: u8,
     pub at: usize,
     pub len: usize,
-}
-
-// What stands at a place of a message.
-#[derive(Clone, Copy)]
-pub enum Item {
-    End,
-    Faulty(Fault),
-    Found(Object),
 }
 
 fn is_read(class: u8) -> bool
@@ -83,7 +76,7 @@ fn attribute_formed(s: &[u8], o: Object) -> bool
     if o.len < 8 {
         return false;
     }
-    let name = s[at + 7] as usize;
+    let name = usize::from(s[at + 7]);
     if o.len != 8 + (name + 3) / 4 * 4 {
         return false;
     }
@@ -94,25 +87,15 @@ fn is_formed(s: &[u8], o: Object) -> bool
     requires { o.at + o.len ≤ length s.now }
     ensures { result ≡ formed s.now o }
 {
-    if o.class == SESSION {
-        return has_form(o, 7, 16);
+    match o.class {
+        SESSION => has_form(o, 7, 16),
+        ERROR_SPEC => has_form(o, 1, 12),
+        SENDER_TEMPLATE => has_form(o, 7, 12),
+        MESSAGE_ID => has_form(o, 1, 12),
+        ADMIN_STATUS => has_form(o, 1, 8),
+        SESSION_ATTRIBUTE => attribute_formed(s, o),
+        _ => false,
     }
-    if o.class == ERROR_SPEC {
-        return has_form(o, 1, 12);
-    }
-    if o.class == SENDER_TEMPLATE {
-        return has_form(o, 7, 12);
-    }
-    if o.class == MESSAGE_ID {
-        return has_form(o, 1, 12);
-    }
-    if o.class == ADMIN_STATUS {
-        return has_form(o, 1, 8);
-    }
-    if o.class == SESSION_ATTRIBUTE {
-        return attribute_formed(s, o);
-    }
-    false
 }
 
 fn bad_length(s: &[u8], at: usize) -> bool
@@ -123,7 +106,7 @@ fn bad_length(s: &[u8], at: usize) -> bool
     if left < 4 {
         return true;
     }
-    let len = get16(s, at) as usize;
+    let len = usize::from(get16(s, at));
     (len < 4) | (len % 4 != 0) | (left < len)
 }
 
@@ -135,30 +118,30 @@ fn object_at(s: &[u8], at: usize) -> Object
         class: s[at + 2],
         ctype: s[at + 3],
         at,
-        len: get16(s, at) as usize,
+        len: usize::from(get16(s, at)),
     }
 }
 
-// What stands at a place of a message: any bytes, any place. A formed object's class is one that is read, so 8 is told
-// from 9 only where there is a fault.
-pub fn item_at(s: &[u8], at: usize) -> Item
+// The object that stands at a place of a message, none at its end: any bytes, any place. A formed object's class is one
+// that is read, so 8 is told from 9 only where there is a fault.
+pub fn item_at(s: &[u8], at: usize) -> Result<Option<Object>, Fault>
     ensures { result ≡ item_at s.now at }
 {
     if s.len() <= at {
-        return Item::End;
+        return Ok(None);
     }
     if bad_length(s, at) {
-        return Item::Faulty(Fault::ObjectLength);
+        return Err(Fault::ObjectLength);
     }
     let o = object_at(s, at);
     if passed_over(o.class) {
-        return Item::Found(o);
+        return Ok(Some(o));
     }
     if is_formed(s, o) {
-        return Item::Found(o);
+        return Ok(Some(o));
     }
     if !is_read(o.class) {
-        return Item::Faulty(Fault::ObjectClass);
+        return Err(Fault::ObjectClass);
     }
-    Item::Faulty(Fault::ObjectForm)
+    Err(Fault::ObjectForm)
 }

@@ -5,12 +5,13 @@ ghost use Rattle.objects.specs.Walk.{with_object, objects_of, walk_of};
 
 use crate::fault::Fault;
 use crate::object::{
-    ADMIN_STATUS, ERROR_SPEC, Item, MESSAGE_ID, Object, SENDER_TEMPLATE, SESSION,
-    SESSION_ATTRIBUTE, item_at, passed_over,
+    ADMIN_STATUS, ERROR_SPEC, MESSAGE_ID, Object, SENDER_TEMPLATE, SESSION, SESSION_ATTRIBUTE,
+    item_at, passed_over,
 };
 use numbers::big_endian::get16;
 
 // Where the last object of a class stands, and how often one came. Place 0: none came.
+// Kept: two numbers, and no Option: what is asked is how often, and a place only of what came (`seen`).
 #[derive(Clone, Copy)]
 pub struct Seen {
     pub at: usize,
@@ -29,15 +30,12 @@ pub struct Objects {
     pub headers: usize,
 }
 
+// Where a walk stops: the faulty object's place, and the headers read, its own included.
 #[derive(Clone, Copy)]
-pub enum Walked {
-    // The faulty object's place, and the headers read, its own included.
-    Stopped {
-        fault: Fault,
-        offset: usize,
-        headers: usize,
-    },
-    Finished(Objects),
+pub struct Stopped {
+    pub fault: Fault,
+    pub offset: usize,
+    pub headers: usize,
 }
 
 // What is seen of a class after one more object of it. No count reaches the object's place, so each fits.
@@ -56,29 +54,14 @@ fn with_object(mut v: Objects, o: Object) -> Objects
     ensures { result ≡ with_object o v }
 {
     v.headers += 1;
-    if o.class == SESSION {
-        v.session = seen_once_more(v.session, o.at);
-        return v;
-    }
-    if o.class == ERROR_SPEC {
-        v.error = seen_once_more(v.error, o.at);
-        return v;
-    }
-    if o.class == SENDER_TEMPLATE {
-        v.template = seen_once_more(v.template, o.at);
-        return v;
-    }
-    if o.class == MESSAGE_ID {
-        v.identifier = seen_once_more(v.identifier, o.at);
-        return v;
-    }
-    if o.class == ADMIN_STATUS {
-        v.status = seen_once_more(v.status, o.at);
-        return v;
-    }
-    if o.class == SESSION_ATTRIBUTE {
-        v.attribute = seen_once_more(v.attribute, o.at);
-        return v;
+    match o.class {
+        SESSION => v.session = seen_once_more(v.session, o.at),
+        ERROR_SPEC => v.error = seen_once_more(v.error, o.at),
+        SENDER_TEMPLATE => v.template = seen_once_more(v.template, o.at),
+        MESSAGE_ID => v.identifier = seen_once_more(v.identifier, o.at),
+        ADMIN_STATUS => v.status = seen_once_more(v.status, o.at),
+        SESSION_ATTRIBUTE => v.attribute = seen_once_more(v.attribute, o.at),
+        _ => {}
     }
     v
 }
@@ -106,7 +89,7 @@ fn is_like(s: &[u8], at: usize, o: Object) -> bool
     if s.len() < at + o.len {
         return false;
     }
-    (get16(s, at) as usize == o.len) & (s[at + 2] == o.class)
+    (usize::from(get16(s, at)) == o.len) & (s[at + 2] == o.class)
 }
 
 // How many objects from a place on are like one that was passed over. Its length is the step, and not what is read:
@@ -126,22 +109,22 @@ fn run_of(s: &[u8], from: usize, o: Object) -> usize
     more
 }
 
-pub fn walk(s: &[u8]) -> Walked
+pub fn walk(s: &[u8]) -> Result<Objects, Stopped>
     ensures { result ≡ walk_of s.now }
 {
     let mut seen = nothing_seen();
     let mut at = 8;
     loop {
         match item_at(s, at) {
-            Item::End => return Walked::Finished(seen),
-            Item::Faulty(fault) => {
-                return Walked::Stopped {
+            Ok(None) => return Ok(seen),
+            Err(fault) => {
+                return Err(Stopped {
                     fault,
                     offset: at,
                     headers: seen.headers + 1,
-                };
+                });
             }
-            Item::Found(o) => {
+            Ok(Some(o)) => {
                 seen = with_object(seen, o);
                 at += o.len;
                 if passed_over(o.class) {

@@ -1,5 +1,6 @@
 // Which slots are used: four words of 64 bits, one for each slot and some for no slot (01, Code places: trailing ones give
 // the free slot, the count of ones the open calls).
+// Kept: numbers with a bound in each contract (table::layout says why).
 #![tactic(auto)]
 
 ghost use Rattle.std.specs.Prelude.{◌≡◌, true, ◌≤◌, ◌<◌, length};
@@ -24,16 +25,16 @@ pub fn is_used(t: &Words, slot: usize) -> bool
 }
 
 // The lowest free slot, by the trailing ones of each word: a full one is passed over. 256 where none is free.
+// Kept: a number and no Option: callers have found by the shares that one is free, and `lowest_free` of the contract says
+// 256 too.
 pub fn lowest_free(t: &Words) -> usize
     ensures { result ≡ lowest_free (table_of t.now).occupied }
 {
-    let mut k: usize = 0;
-    while k < 4 {
+    for k in 0..4 {
         let n = first_clear(used_word(t, k));
         if n < 64 {
             return 64 * k + n;
         }
-        k += 1;
     }
     256
 }
@@ -43,13 +44,11 @@ pub fn lowest_free(t: &Words) -> usize
 pub fn marked_below(t: &Words) -> usize
     ensures { result ≡ last_below (is_used (table_of t.now).occupied) bits }
 {
-    let mut k: usize = 4;
-    while k != 0 {
-        let n = set_below(used_word(t, k - 1));
-        if n != 0 {
-            return 64 * (k - 1) + n;
+    for k in (0..4).rev() {
+        let last = set_below(used_word(t, k));
+        if last != 0 {
+            return 64 * k + last;
         }
-        k -= 1;
     }
     0
 }
@@ -58,18 +57,17 @@ pub fn marked_below(t: &Words) -> usize
 pub fn used_below(t: &Words) -> usize
     ensures { (result ≤ slots) × FreeFrom (table_of t.now).occupied result }
 {
-    let n = marked_below(t);
-    if n < SLOTS { n } else { SLOTS }
+    marked_below(t).min(SLOTS)
 }
 
 // How many slots are marked as used, by the ones of all words; and that the words are what such words are.
 fn count_used(t: &Words) -> u32
     ensures { (result ≡ ones_of (table_of t.now).occupied) × FourWords (table_of t.now).occupied }
 {
-    u64::count_ones(used_word(t, 0))
-        + u64::count_ones(used_word(t, 1))
-        + u64::count_ones(used_word(t, 2))
-        + u64::count_ones(used_word(t, 3))
+    used_word(t, 0).count_ones()
+        + used_word(t, 1).count_ones()
+        + used_word(t, 2).count_ones()
+        + used_word(t, 3).count_ones()
 }
 
 // How many calls are open. Whoever asks knows that no slot outside the roster's total is marked: so there are as many marks

@@ -11,8 +11,7 @@ use Rattle.numbers.specs.Buffer.{at_front}
 use Rattle.objects.specs.declared.fault.Fault.{Fault}
 use Rattle.messages.specs.declared.message.Message.{Message}
 use Rattle.messages.specs.declared.message.Message.TheVariants.{Open, Close, Add, Drop}
-use Rattle.messages.specs.declared.read.Reading.TheVariants.{Refused, Unfit, Read}
-use Rattle.messages.specs.Read.{read_of}
+use Rattle.messages.specs.Read.{refused, unfit, received, read_of}
 use Rattle.reply_objects.specs.Buffer.{least_buffer}
 use Rattle.table.specs.Table.{Table}
 use Rattle.table.specs.Total.{total_of}
@@ -105,22 +104,22 @@ module _ (t : Table) (s buffer : List ℕ) where
 -- ---- the form, by what the message is read as
 
 module _ (r : List Terms) (k : ℕ → Last) (s : List ℕ) (room : ℕ) (h : least_buffer ≤ room) where
-  pub form_refused : (fault : Fault) (offset headers : ℕ) → read_of s ≡ Refused fault offset headers → form_of r k s room ≡ faulty (Malformed fault)
+  pub form_refused : (fault : Fault) (offset headers : ℕ) → read_of s ≡ refused fault offset headers → form_of r k s room ≡ faulty (Malformed fault)
   unfolding form_of
   form_refused fault offset headers e = rw (le-ltb room least_buffer h, e)
 
-  pub form_unfit : (fault : Fault) (sender headers : ℕ) → read_of s ≡ Unfit fault sender headers → is_listed r sender ≡ true → form_of r k s room ≡ faulty (Malformed fault)
+  pub form_unfit : (fault : Fault) (sender headers : ℕ) → read_of s ≡ unfit fault sender headers → is_listed r sender ≡ true → form_of r k s room ≡ faulty (Malformed fault)
   unfolding form_of listed_or11
   form_unfit fault sender headers e l = rw (le-ltb room least_buffer h, e, l)
 
-  pub form_unfit_unlisted : (fault : Fault) (sender headers : ℕ) → read_of s ≡ Unfit fault sender headers → is_listed r sender ≡ false → form_of r k s room ≡ faulty SenderNotListed
+  pub form_unfit_unlisted : (fault : Fault) (sender headers : ℕ) → read_of s ≡ unfit fault sender headers → is_listed r sender ≡ false → form_of r k s room ≡ faulty SenderNotListed
   unfolding form_of listed_or11
   form_unfit_unlisted fault sender headers e l = rw (le-ltb room least_buffer h, e, l)
 
-  pub form_listed : (m : Message) (headers : ℕ) → read_of s ≡ Read m headers → is_listed r (sender_of m) ≡ true → form_of r k s room ≡ sound_or16 k m
+  pub form_listed : (m : Message) (headers : ℕ) → read_of s ≡ received m headers → is_listed r (sender_of m) ≡ true → form_of r k s room ≡ sound_or16 k m
   unfolding form_of listed_or11
   form_listed m headers e l = rw (le-ltb room least_buffer h, e, l)
 
-  pub form_unlisted : (m : Message) (headers : ℕ) → read_of s ≡ Read m headers → is_listed r (sender_of m) ≡ false → form_of r k s room ≡ faulty SenderNotListed
+  pub form_unlisted : (m : Message) (headers : ℕ) → read_of s ≡ received m headers → is_listed r (sender_of m) ≡ false → form_of r k s room ≡ faulty SenderNotListed
   unfolding form_of listed_or11
   form_unlisted m headers e l = rw (le-ltb room least_buffer h, e, l)

@@ -2,4 +2,5 @@
 #![tactic(auto)]
 
 pub mod outcome;
+pub mod request;
 pub mod sending;

@@ -4,6 +4,7 @@ ghost use Rattle.std.specs.Prelude.{◌≡◌};
 use answers::answer::Answer;
 
 // The answer, and the reply's length, 0 where none is sent.
+// Kept: 0, and no Option, is the length of no bytes, as `Answered` of spec_calls has it, and as C is told.
 #[derive(Clone, Copy)]
 pub struct Outcome {
     pub answer: Answer,

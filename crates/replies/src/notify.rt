@@ -1,5 +1,5 @@
 // A Notify, written at the front of the reply buffer.
-ghost use Rattle.std.specs.Prelude.{◌≡◌, ◌++◌, ◌+◌, ◌≤◌, length, take};
+ghost use Rattle.std.specs.Prelude.{◌≡◌, ◌++◌, ◌+◌, ◌≤◌, length};
 ghost use Rattle.numbers.specs.Buffer.{at_front};
 ghost use Rattle.reply_objects.specs.Header.{header_bytes, with_checksum};
 ghost use Rattle.replies.specs.Messages.{NotifyFits, ObjectsFit, notify_front, notify_with, notify_bytes, notify_made_bytes};
@@ -7,8 +7,8 @@ ghost use Rattle.replies.specs.Messages.{NotifyFits, ObjectsFit, notify_front, n
 use objects::fields::{MessageId, Part};
 use reply_objects::made::{put_attribute_with, put_session_with};
 use reply_objects::writers::{
-    ErrorSpec, fill_checksum, put_admin_status, put_error_spec, put_header, put_message_id,
-    put_message_id_ack, put_received,
+    ErrorSpec, fill_checksum, put_admin_status, put_bytes, put_error_spec, put_header,
+    put_message_id, put_message_id_ack, put_received,
 };
 
 const NOTIFY: u8 = 21;
@@ -47,12 +47,11 @@ fn put_notify_before_checksum(
     requires { ObjectsFit msg.now n session.now attribute.now reply.old }
     ensures { (result ≡ 80 + length attribute.now) × (reply.new ≡ at_front (notify_with msg.now n session.now attribute.now) reply.old) }
 {
-    let size = attribute.len();
-    let len = (80 + size) as u16;
+    let len = (80 + attribute.len()) as u16;
     let a = put_notify_front(reply, n, len);
-    let b = a + put_received(&mut reply[a..], session, Part { at: 0, size: 16 });
+    let b = a + put_bytes(&mut reply[a..], session);
     let c = b + put_admin_status(&mut reply[b..], n.status);
-    let d = c + put_received(&mut reply[c..], attribute, Part { at: 0, size });
+    let d = c + put_bytes(&mut reply[c..], attribute);
     d + put_received(&mut reply[d..], msg, n.template)
 }
 
@@ -83,22 +82,17 @@ pub fn put_notify(reply: &mut [u8], msg: &[u8], n: Notify) -> usize
     put_notify_with(reply, msg, n, &msg[s..t], &msg[a..b])
 }
 
-// The reply to a request without names (02, A6): it carries the call's ID, and its name, the first `size` bytes of the
-// array. Both objects are made beside the reply, so that one function puts the objects of every Notify behind one another.
-pub fn put_notify_made(
-    reply: &mut [u8],
-    msg: &[u8],
-    n: Notify,
-    call: u16,
-    name: &[u8; 32],
-    size: usize,
-) -> usize
-    requires { (NotifyFits msg.now n reply.old) × (size ≤ 32) }
-    ensures { (result ≡ length (notify_made_bytes msg.now n call (take size name.now))) × (reply.new ≡ at_front (notify_made_bytes msg.now n call (take size name.now)) reply.old) }
+// Kept: a function beside `put_notify`, since this one makes two objects first; they share `put_notify_with`.
+//
+// The reply to a request without names (02, A6): it carries the call's ID and name. Both objects are made beside the
+// reply, so that one function puts the objects of every Notify behind one another.
+pub fn put_notify_made(reply: &mut [u8], msg: &[u8], n: Notify, call: u16, name: &[u8]) -> usize
+    requires { (NotifyFits msg.now n reply.old) × (length name.now ≤ 32) }
+    ensures { (result ≡ length (notify_made_bytes msg.now n call name.now)) × (reply.new ≡ at_front (notify_made_bytes msg.now n call name.now) reply.old) }
 {
     let mut session: [u8; 16] = [0; 16];
     let mut attribute: [u8; 40] = [0; 40];
     put_session_with(&mut session, msg, n.session, call);
-    let len = put_attribute_with(&mut attribute, msg, n.attribute, name, size);
+    let len = put_attribute_with(&mut attribute, msg, n.attribute, name);
     put_notify_with(reply, msg, n, &session, &attribute[..len])
 }

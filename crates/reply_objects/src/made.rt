@@ -1,12 +1,12 @@
 // SESSION and SESSION_ATTRIBUTE with the IDs that the node made for a request without names (02, A6). All else is as
 // received. As in `writers`, each is written at the front of the slice that is lent, and the answer is how many bytes.
-ghost use Rattle.std.specs.Prelude.{◌≡◌, ◌+◌, ◌≤◌, length, take};
+ghost use Rattle.std.specs.Prelude.{◌≡◌, ◌+◌, ◌≤◌, length};
 ghost use Rattle.numbers.specs.Buffer.{at_front};
 ghost use Rattle.objects.specs.Forms.{rounded_up_to4};
 ghost use Rattle.objects.specs.Part.{part_of, Within};
 ghost use Rattle.reply_objects.specs.Objects.{session_with, attribute_front, attribute_with};
 
-use crate::writers::put_received;
+use crate::writers::{put_bytes, put_received};
 use numbers::big_endian::{put8, put16};
 use objects::fields::Part;
 use objects::object::SESSION_ATTRIBUTE;
@@ -37,24 +37,14 @@ fn put_attribute_front(out: &mut [u8], msg: &[u8], p: Part, size: usize) -> usiz
     8
 }
 
-// The received SESSION_ATTRIBUTE with another name, the first `size` bytes of the array, and zeros behind it.
-pub fn put_attribute_with(
-    out: &mut [u8],
-    msg: &[u8],
-    p: Part,
-    name: &[u8; 32],
-    size: usize,
-) -> usize
-    requires { (Within msg.now p) × (8 ≤ p.size) × (size ≤ 32) × (8 + rounded_up_to4 size ≤ length out.old) }
-    ensures { (result ≡ 8 + rounded_up_to4 size) × (result ≡ length (attribute_with (part_of msg.now p) (take size name.now))) × (out.new ≡ at_front (attribute_with (part_of msg.now p) (take size name.now)) out.old) }
+// The received SESSION_ATTRIBUTE with another name, and zeros behind it.
+pub fn put_attribute_with(out: &mut [u8], msg: &[u8], p: Part, name: &[u8]) -> usize
+    requires { (Within msg.now p) × (8 ≤ p.size) × (length name.now ≤ 32) × (8 + rounded_up_to4 (length name.now) ≤ length out.old) }
+    ensures { (result ≡ 8 + rounded_up_to4 (length name.now)) × (result ≡ length (attribute_with (part_of msg.now p) name.now)) × (out.new ≡ at_front (attribute_with (part_of msg.now p) name.now) out.old) }
 {
-    let zeros: [u8; 3] = [0; 3];
+    let size = name.len();
     let padding = (size + 3) / 4 * 4 - size;
-    let end = Part {
-        at: 0,
-        size: padding,
-    };
     let a = put_attribute_front(out, msg, p, size);
-    let b = a + put_received(&mut out[a..], name, Part { at: 0, size });
-    b + put_received(&mut out[b..], &zeros, end)
+    let b = a + put_bytes(&mut out[a..], name);
+    b + put_bytes(&mut out[b..], &[0; 3][..padding])
 }

@@ -25,6 +25,8 @@ pub struct ErrorSpec {
     pub value: u16,
 }
 
+// Kept: the type's number: the node also sends a type that it never takes.
+//
 // The common header, its checksum field 0 until `fill_checksum` fills it.
 pub fn put_header(out: &mut [u8], kind: u8, len: u16) -> usize
     requires { 8 ≤ length out.old }
@@ -53,6 +55,7 @@ fn put_identifier(out: &mut [u8], class: u8, flags: u8, id: MessageId) -> usize
     12
 }
 
+// Kept: two functions over one writer: each has a class and flags that its callers need not know.
 pub fn put_message_id_ack(out: &mut [u8], id: MessageId) -> usize
     requires { 12 ≤ length out.old }
     ensures { (result ≡ 12) × (out.new ≡ at_front (identifier_bytes message_id_ack 0 id) out.old) }
@@ -92,20 +95,22 @@ pub fn put_admin_status(out: &mut [u8], bits: u32) -> usize
     8
 }
 
+// Bytes that are made beside the reply, as they are.
+pub fn put_bytes(out: &mut [u8], bytes: &[u8]) -> usize
+    requires { length bytes.now ≤ length out.old }
+    ensures { (result ≡ length bytes.now) × (out.new ≡ at_front bytes.now out.old) }
+{
+    out[..bytes.len()].copy_from_slice(bytes);
+    bytes.len()
+}
+
 // A part of a message as it stands there: SESSION, SESSION_ATTRIBUTE or SENDER_TEMPLATE as received, reserved bits and
 // padding included.
 pub fn put_received(out: &mut [u8], msg: &[u8], p: Part) -> usize
     requires { (Within msg.now p) × (p.size ≤ length out.old) }
     ensures { (result ≡ p.size) × (out.new ≡ at_front (part_of msg.now p) out.old) }
 {
-    let from = p.at;
-    let size = p.size;
-    let mut i = 0;
-    while i < size {
-        out[i] = msg[from + i];
-        i += 1;
-    }
-    size
+    put_bytes(out, &msg[p.at..p.at + p.size])
 }
 
 // Fills the checksum field of the message of n bytes at the front of a reply buffer. The field is free, as `put_header`

@@ -1,5 +1,6 @@
 -- The laws of a turn over the records: what it stores, what it adds, and what is left to answer.
 -- Assumes nothing.
+use Rattle.std.specs.Prelude.{Err}
 use Prim.Native.Nat.{ℕ, suc, ◌+◌, ◌-◌, ◌*◌, ◌≤◌, ◌<◌}
 use native.Mathlib.Omega.{arith}
 use mathlib.Core.Path.{◌≡◌, refl}
@@ -13,8 +14,8 @@ use Rattle.lists.specs.Count.{has}
 use Rattle.lists.specs.Below.{element_if, below}
 use Rattle.lists.proofs.Below.{sum_turn}
 use Rattle.lists.proofs.Filled.{fill_turn, fill_left}
-use Rattle.table.specs.declared.answer.RosterAnswer.{RosterAnswer}
-use Rattle.table.specs.declared.answer.RosterAnswer.TheVariants.{Accepted, SpareBits, Share, Repeated, Guarantees}
+use Rattle.table.specs.declared.answer.RosterFault.{RosterFault}
+use Rattle.table.specs.declared.answer.RosterFault.TheVariants.{Short, BadForm, Length, SpareBits, Share, Repeated, Guarantees}
 use Rattle.table.specs.Table.{Table}
 use Rattle.table.specs.Total.{slots}
 use Rattle.table.specs.Zeros.{no_call, no_customer, empty_table, past_customer}
@@ -22,7 +23,7 @@ use Rattle.table.specs.Lists.{customer_at}
 use Rattle.table.specs.Share.{is_at}
 use Rattle.table.specs.Rules.{bad_share, guarantees}
 use Rattle.table.specs.Stores.{with_terms, with_roster}
-use Rattle.table.specs.Roster.{form_in, customers_in, total_in, spare_in, shares_in, terms_in, records_in, records_answer, customer_in, customers_from, fresh_table, roster_number, table_for}
+use Rattle.table.specs.Roster.{Accepted, form_in, customers_in, total_in, spare_in, shares_in, terms_in, records_in, records_answer, customer_in, customers_from, fresh_table, table_for}
 use Rattle.rosters.specs.Taken.{with_record}
 
 -- ---- the customers
@@ -83,7 +84,7 @@ module _ (s : List ℕ) (k n : ℕ) where
   one_fewer : k < n → n - k ≡ suc (n - (k + 1))
   one_fewer h = omega arith
 
-  pub spare_bits : (spare : ℕ) → k < n → spare ≡ spare_in (form_in s) (shares_in s k) → (spare ≡ 0 → ⊥) → records_answer s k (n - k) ≡ SpareBits
+  pub spare_bits : (spare : ℕ) → k < n → spare ≡ spare_in (form_in s) (shares_in s k) → (spare ≡ 0 → ⊥) → records_answer s k (n - k) ≡ Err SpareBits
   unfolding records_answer
   spare_bits spare h e p = rw (one_fewer h, ← e, ne_eqb spare 0 p)
 
@@ -91,21 +92,22 @@ module _ (s : List ℕ) (k n : ℕ) where
   pub judged : (spare guarantee limit total address : ℕ) (bad twice : Bool) → k < n → spare ≡ spare_in (form_in s) (shares_in s k) → spare ≡ 0
       → guarantee ≡ (terms_in s k).guarantee → limit ≡ (terms_in s k).limit → total ≡ total_in s → address ≡ be32_at s (8 + 6 * k)
       → bad ≡ bad_share total (record { address = 0; guarantee = guarantee; limit = limit }) → twice ≡ has (is_at address) (records_in s k)
-      → records_answer s k (n - k) ≡ cond bad Share (cond twice Repeated (records_answer s (k + 1) (n - (k + 1))))
+      → records_answer s k (n - k) ≡ cond bad (Err Share) (cond twice (Err Repeated) (records_answer s (k + 1) (n - (k + 1))))
   unfolding records_answer bad_share
   judged spare guarantee limit total address bad twice h e p g l o f q r = rw (q, r, f, g, l, o, one_fewer h, ← e, eq-eqb spare 0 p)
 
-  pub summed : (total sum : ℕ) → n ≤ k → total ≡ total_in s → sum ≡ guarantees (records_in s k) → records_answer s k (n - k) ≡ cond (ltb total sum) Guarantees Accepted
+  pub summed : (total sum : ℕ) → n ≤ k → total ≡ total_in s → sum ≡ guarantees (records_in s k) → records_answer s k (n - k) ≡ cond (ltb total sum) (Err Guarantees) Accepted
   unfolding records_answer
   summed total sum h o e = let z : n - k ≡ 0 = omega arith in rw (z, o, e)
 
--- ---- the table that goes with an answer
+-- ---- the table that goes with a refusal
 
-module _ (s : List ℕ) (t : Table) (a : RosterAnswer) where
-  pub table_fresh : roster_number a ≡ 0 → t ≡ fresh_table s → t ≡ table_for a s
-  unfolding table_for
-  table_fresh n e = rw (eq-eqb (roster_number a) 0 n) e
-
-  pub table_empty : (roster_number a ≡ 0 → ⊥) → t ≡ empty_table → t ≡ table_for a s
-  unfolding table_for
-  table_empty n e = rw (ne_eqb (roster_number a) 0 n) e
+pub table_refused : (f : RosterFault) (s : List ℕ) (t : Table) → t ≡ empty_table → t ≡ table_for (Err f) s
+unfolding table_for
+table_refused Short s t e = e
+table_refused BadForm s t e = e
+table_refused Length s t e = e
+table_refused SpareBits s t e = e
+table_refused Share s t e = e
+table_refused Repeated s t e = e
+table_refused Guarantees s t e = e

@@ -8,9 +8,10 @@ ghost use Rattle.table.specs.Total.{slots};
 ghost use Rattle.table.specs.Rules.{same_connection, roster_holds, holds, senders_listed, connections_once};
 ghost use Rattle.table.specs.Words.{table_of};
 ghost use Rattle.rule_connections.specs.Own.{own_at, own};
-ghost use Rattle.rule_connections.specs.Rows.{rows, lsps_of};
+ghost use Rattle.rule_connections.specs.Rows.{lsps_of};
+ghost use Rattle.rule_connections.specs.Columns.{rows_in};
 
-use crate::columns::{Column, put_four, rows_once};
+use crate::columns::{Columns, ROWS};
 use occupancy::{is_used, used_below};
 use table::layout::Words;
 use table_words::fours::{call_four, customer_four};
@@ -18,25 +19,15 @@ use table_words::head::listed;
 
 mod columns;
 
-// A slot's connections behind the first n rows, where its call is from a sender; says how many rows there are then.
-fn put_call(
-    endpoints: &mut Column,
-    tunnels: &mut Column,
-    extended: &mut Column,
-    lsps: &mut Column,
-    n: usize,
-    t: &Words,
-    i: usize,
-    sender: u32,
-) -> usize
-    requires { (n + 4 ≤ 832) × (i < slots) }
-    ensures { (rows sender endpoints.new tunnels.new extended.new lsps.new result ≡ rows sender endpoints.old tunnels.old extended.old lsps.old n ++ lsps_of (own_at (table_of t.now) sender i)) × (result ≤ n + 4) }
+// A slot's connections in rows more, where its call is from a sender.
+fn put_call(columns: &mut Columns, t: &Words, i: usize, sender: u32)
+    requires { (columns.old.count + 4 ≤ 832) × (i < slots) }
+    ensures { (rows_in sender columns.new ≡ rows_in sender columns.old ++ lsps_of (own_at (table_of t.now) sender i)) × (columns.new.count ≤ columns.old.count + 4) }
 {
     let f = call_four(t, i);
     if is_used(t, i) & (f.sender == sender) {
-        return put_four(endpoints, tunnels, extended, lsps, n, t, f);
+        columns.put_four(t, f);
     }
-    n
 }
 
 // No connection of customer k is held twice.
@@ -44,37 +35,19 @@ fn customer_once(t: &Words, k: usize) -> bool
     requires { k < 8 }
     ensures { result ≡ no_two same_connection (own (table_of t.now) k) }
 {
-    let mut endpoints: Column = [0; 832];
-    let mut tunnels: Column = [0; 832];
-    let mut extended: Column = [0; 832];
-    let mut lsps: Column = [0; 832];
+    let mut columns = Columns {
+        endpoints: [0; ROWS],
+        tunnels: [0; ROWS],
+        extended: [0; ROWS],
+        lsps: [0; ROWS],
+        count: 0,
+    };
     let g = customer_four(t, k);
-    let used = used_below(t);
-    let mut n: usize = 0;
-    let mut i: usize = 0;
-    while i < used {
-        n = put_call(
-            &mut endpoints,
-            &mut tunnels,
-            &mut extended,
-            &mut lsps,
-            n,
-            t,
-            i,
-            g.sender,
-        );
-        i += 1;
+    for i in 0..used_below(t) {
+        put_call(&mut columns, t, i, g.sender);
     }
-    n = put_four(
-        &mut endpoints,
-        &mut tunnels,
-        &mut extended,
-        &mut lsps,
-        n,
-        t,
-        g,
-    );
-    rows_once(&endpoints, &tunnels, &extended, &lsps, n)
+    columns.put_four(t, g);
+    columns.is_once()
 }
 
 // The same of a roster record: an unused one has no connections.
@@ -89,16 +62,15 @@ fn record_once(t: &Words, listed: usize, k: usize) -> bool
 }
 
 // No connection is held twice. That the roster is acceptable and every sender listed is tested before.
+#[tactic(auto, using(lists::proofs::Below::every_none, lists::proofs::Below::every_turn))]
 pub fn connections_once(t: &Words) -> bool
     requires { (roster_holds (table_of t.now) ≡ true) × (holds senders_listed (table_of t.now) ≡ true) }
     ensures { result ≡ holds connections_once (table_of t.now) }
 {
     let listed = listed(t);
     let mut once = true;
-    let mut k: usize = 0;
-    while k < 8 {
-        once = once & record_once(t, listed, k);
-        k += 1;
+    for k in 0..8 {
+        once &= record_once(t, listed, k);
     }
     once
 }

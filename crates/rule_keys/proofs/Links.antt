@@ -109,13 +109,13 @@ module _ {heads links keys : List ℕ} {n : ℕ} (key : ℕ) (c : Chained heads 
   pub first_within : first ≤ n
   first_within = omega (arith, first_is, last_within (is_of keys (chain_of key)) n)
 
-  pub first_of : first ≡ last_in (set keys n key) (chain_of key) first
-  first_of = rw (last_set keys n key (chain_of key) first first_within, first_is) (last_itself (is_of keys (chain_of key)) n)
+  pub first_of : first ≡ last_in keys (chain_of key) first
+  first_of = rw first_is (last_itself (is_of keys (chain_of key)) n)
 
   key_here : get_or (set keys n key) n 0 ≡ key
   key_here = get_or-set_same keys n key 0 (omega (arith, c.sized))
 
-  pub noted_linked : Linked (set links n first) (set keys n key) (n + 1)
+  noted_linked : Linked (set links n first) (set keys n key) (n + 1)
   noted_linked i l = ⊎_elim here before (eq-or-lt_of_le (le_of_suc-le-suc (rw (add-one n) at l)))
     where
       here : i ≡ n → get_or (set links n first) i 0 ≡ last_in (set keys n key) (chain_of (get_or (set keys n key) i 0)) i
@@ -157,11 +157,11 @@ module _ {heads links keys : List ℕ} {n : ℕ} (key : ℕ) (c : Chained heads 
   noted_taken = rw (add-one n) (take-suc-set keys n key (omega (arith, c.sized)))
 
   -- the key was not noted before, where no key of its chain up to the last one is it
-  pub not_noted : ((i : ℕ) → i < first → get_or (set keys n key) i 0 ≡ key → ⊥) → has (eqb key) (take n keys) ≡ false
+  pub not_noted : ((i : ℕ) → i < first → get_or keys i 0 ≡ key → ⊥) → has (eqb key) (take n keys) ≡ false
   not_noted none = none_equal keys key n (λ j l e. by j l e (ltb j first) refl)
     where
       by : (j : ℕ) → j < n → get_or keys j 0 ≡ key → (b : Bool) → ltb j first ≡ b → ⊥
-      by j l e true q = none j (ltb-true j first q) (get_or-set_other keys n j key 0 (λ (d : j ≡ n). omega arith) ∙ e)
+      by j l e true q = none j (ltb-true j first q) e
       by j l e false q = last_behind keys (chain_of key) n j (rw (← first_is) (ltb-false j first q)) l (ap chain_of e)
 
 -- so no two are equal with it, where none was before

@@ -2,7 +2,7 @@
 -- Assumes nothing.
 use Prim.Native.Nat.{ℕ, ◌+◌, ◌≤◌, ◌<◌}
 use native.Mathlib.Nat.{not-suc-le-zero}
-use mathlib.Core.Path.{◌≡◌, refl, sym, ◌∙◌}
+use mathlib.Core.Path.{◌≡◌, sym, ◌∙◌}
 use mathlib.Core.List.{List, ◌++◌, append_assoc, append-nil}
 use lib.Dec.{ltb}
 use lib.ListN.{replicate, length-replicate, get_or-replicate}
@@ -16,18 +16,15 @@ use Rattle.table.specs.Word.{is_used, FreeFrom}
 use Rattle.table.specs.Lists.{customer_at, call_at, Four, customer_four, held_in}
 use Rattle.table_words.specs.Fours.{Alike}
 use Rattle.table_words.proofs.Alike.{alike_held}
-use Rattle.rule_keys.specs.Chains.{Listed}
+use Rattle.rule_keys.specs.Chains.{Chained}
 use Rattle.rule_keys.specs.Keys.{held_keys, call_keys, call_keys_at}
 
-pub nothing_noted : (steps : ℕ) → Listed (replicate 2048 0) (replicate 1432 0) (replicate 1432 0) (record { count = 0; left = steps })
+pub nothing_noted : Chained (replicate 2048 0) (replicate 1432 0) (replicate 1432 0) 0
 unfolding last_below
-nothing_noted steps = record {
-  chained = record {
-    sized = (length-replicate {A = ℕ} 2048 0, length-replicate {A = ℕ} 1432 0, length-replicate {A = ℕ} 1432 0);
-    head = λ m l. get_or-replicate {A = ℕ} 2048 m 0 0 l;
-    linked = λ i l. absurd (not-suc-le-zero l);
-  };
-  apart = λ h. refl;
+nothing_noted = record {
+  sized = (length-replicate {A = ℕ} 2048 0, length-replicate {A = ℕ} 1432 0, length-replicate {A = ℕ} 1432 0);
+  head = λ m l. get_or-replicate {A = ℕ} 2048 m 0 0 l;
+  linked = λ i l. absurd (not-suc-le-zero l);
 }
 
 -- a place's keys, noted behind those of the places before, which were noted behind `s`

@@ -1,8 +1,6 @@
 -- Keys noted one after another, in chains: words of contracts only. No rule cites these.
-use Rattle.std.specs.Prelude.{ℕ, ◌/◌, ◌<◌, ◌≡◌, List, Bool, true, eqb, length, get_or, take}
+use Rattle.std.specs.Prelude.{ℕ, ◌/◌, ◌<◌, ◌≡◌, List, Bool, eqb, length, get_or}
 use Rattle.lists.specs.Chain.{last_below}
-use Rattle.lists.specs.Count.{no_two}
-use Rattle.rule_keys.specs.declared.chains.Noted.{Noted}
 
 -- the chain that a key is of, one of 2,048
 abbrev pub chain_of : ℕ → ℕ
@@ -25,8 +23,3 @@ pub record Chained (heads links keys : List ℕ) (n : ℕ) : Type 0 where
   pub sized : (length heads ≡ 2048) × (length links ≡ 1432) × (length keys ≡ 1432)
   pub head : (m : ℕ) → m < 2048 → get_or heads m 0 ≡ last_in keys m n
   pub linked : Linked links keys n
-
--- the keys that are noted stand in their chains, and while steps are left no two of them are equal
-pub record Listed (heads links keys : List ℕ) (at : Noted) : Type 0 where
-  pub chained : Chained heads links keys at.count
-  pub apart : 0 < at.left → no_two eqb (take at.count keys) ≡ true

@@ -1,68 +1,63 @@
-// Keys noted one after another, in chains: `heads[m]` is the number, counted from 1, of the last key noted in chain m,
-// and `links[i]` that of the key before key i in its chain; 0 where there is none. Equal keys are of one chain.
-ghost use Rattle.std.specs.Prelude.{◌≡◌, [], ◌∷◌, ◌++◌, false, ℕ, ◌+◌, ◌≤◌, ◌<◌, eqb, get_or, take};
-ghost use Rattle.lists.specs.Count.{has};
-ghost use Rattle.rule_keys.specs.Chains.{chain_of, last_in, Linked, Chained, Listed};
+// Keys noted one after another, in chains. Equal keys are of one chain.
+ghost use Rattle.std.specs.Prelude.{◌≡◌, true, ◌<◌, eqb, take};
+ghost use Rattle.lists.specs.Count.{no_two};
+ghost use Rattle.rule_keys.specs.Chains.{Chained};
 
-// There are 2,048 chains, and room for seven keys of each of 200 slots and four of each of eight customers.
-pub type Heads = [u16; 2048];
+pub const CHAINS: usize = 2048;
 
-pub type Links = [u16; 1432];
+// Room for seven keys of each of 200 slots and four of each of eight customers.
+pub const ROOM: usize = 1432;
 
-pub type Keys = [u32; 1432];
-
-// How many keys are noted, and how many steps back through chains are left.
-#[derive(Clone, Copy)]
+// `heads[m]` is the number, counted from 1, of the last key noted in chain m, and `links[i]` that of the key before key i
+// in its chain; 0 where there is none. It is made in one place and lent: nothing of its size is copied.
+#[derive(Drop)]
 pub struct Noted {
+    pub heads: [u16; CHAINS],
+    pub links: [u16; ROOM],
+    pub keys: [u32; ROOM],
+    // How many keys are noted, and how many steps back through chains are left.
     pub count: usize,
     pub left: usize,
+    pub ghost chained: { Chained heads links keys count },
+    pub ghost apart: { 0 < left → no_two eqb (take count keys) ≡ true },
 }
 
-// Looks for a key in a chain, from its key number `first` back to its first one. It says how many steps are left: none
-// where the key was met, or where there were too few.
-fn walk(keys: &Keys, links: &Links, first: u16, key: u32, steps: usize) -> usize
-    requires { (first ≤ 1432) × (first ≡ last_in keys.now (chain_of key) first) × Linked links.now keys.now first }
-    ensures { (result ≤ steps) × (0 < result → (i : ℕ) → i < first → get_or keys.now i 0 ≡ key → ⊥) }
-{
-    let mut left = steps;
-    let mut e = first as usize;
-    while (e != 0) & (left != 0) {
-        if keys[e - 1] == key {
-            return 0;
+impl Noted {
+    ghost use Rattle.std.specs.Prelude.{[], ◌∷◌, ◌++◌, ℕ, ◌+◌, ◌≤◌, get_or};
+    ghost use Rattle.rule_keys.specs.Chains.{chain_of, last_in};
+    ghost use Rattle.rule_keys.specs.Noted.{noted_keys};
+
+    // Looks for a key in its chain, from key number `first` back to the first one. It says how many steps are left: none
+    // where the key was met, or where there were too few.
+    fn walk(&self, first: usize, key: u32) -> usize
+        requires { (first ≤ self.now.count) × (self.now.count < 1432) × (first ≡ last_in self.now.keys (chain_of key) first) }
+        ensures { (result ≤ self.now.left) × (0 < result → (i : ℕ) → i < first → get_or self.now.keys i 0 ≡ key → ⊥) }
+    {
+        let mut left = self.left;
+        let mut e = first;
+        while (e != 0) & (left != 0) {
+            if self.keys[e - 1] == key {
+                return 0;
+            }
+            left -= 1;
+            e = usize::from(self.links[e - 1]);
         }
-        left -= 1;
-        e = links[e - 1] as usize;
+        left
     }
-    left
-}
 
-// Notes a key behind the `n` keys that are noted. It says how many steps are left: where there are some, the key was
-// not noted before.
-fn note(
-    heads: &mut Heads,
-    links: &mut Links,
-    keys: &mut Keys,
-    n: usize,
-    key: u32,
-    left: usize,
-) -> usize
-    requires { Chained heads.old links.old keys.old n × (n < 1432) }
-    ensures { Chained heads.new links.new keys.new (n + 1) × (take (n + 1) keys.new ≡ take n keys.old ++ key ∷ []) × (result ≤ left) × (0 < result → has (eqb key) (take n keys.old) ≡ false) }
-{
-    let m = (key >> 21) as usize;
-    let e = heads[m];
-    heads[m] = (n + 1) as u16;
-    links[n] = e;
-    keys[n] = key;
-    walk(keys, links, e, key, left)
-}
-
-// Notes a key. There is room for it: whoever asks says why, and begins with no key noted.
-pub fn note_key(heads: &mut Heads, links: &mut Links, keys: &mut Keys, at: Noted, key: u32) -> Noted
-    requires { Listed heads.old links.old keys.old at × (at.count < 1432) }
-    ensures { Listed heads.new links.new keys.new result × (take result.count keys.new ≡ take at.count keys.old ++ key ∷ []) × (result.count ≡ at.count + 1) }
-{
-    let n = at.count;
-    let left = note(heads, links, keys, n, key, at.left);
-    Noted { count: n + 1, left }
+    // Notes a key. There is room for it: whoever asks says why.
+    pub fn note(&mut self, key: u32)
+        requires { self.old.count < 1432 }
+        ensures { (noted_keys self.new ≡ noted_keys self.old ++ key ∷ []) × (self.new.count ≡ self.old.count + 1) }
+    {
+        let n = self.count;
+        let m = (key >> 21) as usize;
+        let first = self.heads[m];
+        let left = self.walk(usize::from(first), key);
+        self.heads[m] = (n + 1) as u16;
+        self.links[n] = first;
+        self.keys[n] = key;
+        self.count = n + 1;
+        self.left = left;
+    }
 }

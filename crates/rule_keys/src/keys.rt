@@ -1,4 +1,5 @@
 // The keys of a call's IDs, of its request and of connections: the last 32 bits of sums that cannot overflow.
+// Kept: numbers with a bound in each contract (table::layout says why).
 ghost use Rattle.std.specs.Prelude.{◌≡◌, ◌<◌};
 ghost use Rattle.table.specs.Total.{slots};
 ghost use Rattle.table.specs.Lists.{call_at};

@@ -4,7 +4,7 @@ use Prim.Native.Nat.{ℕ, zero, suc, ◌+◌, ◌≤◌, ◌<◌}
 use native.Mathlib.Omega.{arith}
 use mathlib.Core.Path.{◌≡◌, refl, ap}
 use mathlib.Core.List.{List, [], ◌∷◌, append-nil}
-use mathlib.Core.Bool.{true, false, ◌&&◌}
+use mathlib.Core.Bool.{Bool, true, false, cond, ◌&&◌}
 use lib.Dec.{eqb}
 use lib.ListN.{length, get_or, replicate}
 use Rattle.lists.specs.Count.{bit}
@@ -21,6 +21,11 @@ use Rattle.rule_limits.specs.Tally.{addresses_of, calls_each, tallied}
 
 abbrev entry_at : Table → ℕ → Entry
 entry_at t i = entry_of i (call_at t i)
+
+-- a number that a test lets through, or 0
+pub cond_most : (b : Bool) (n : ℕ) → cond b n 0 ≤ n
+cond_most true n = omega arith
+cond_most false n = omega arith
 
 -- no slot has more than one call
 pub calls_most : (t : Table) (address i : ℕ) → calls_of (below (open_at t) i) address ≤ i

@@ -3,26 +3,37 @@
 
 ghost use Rattle.std.specs.Prelude.{◌≡◌, true, ◌&&◌, ℕ, ◌<◌, length, get_or, replicate};
 ghost use Rattle.lists.specs.Count.{has, sum_of};
+ghost use Rattle.lists.specs.Below.{every_below};
 ghost use Rattle.table.specs.Total.{slots, total_of};
 ghost use Rattle.table.specs.Lists.{roster, entries};
 ghost use Rattle.table.specs.Share.{calls_of, S};
-ghost use Rattle.table.specs.Rules.{bad_share, acceptable, roster_holds, over_limit, holds, slots_within_total, senders_listed, within_limits, share_within_total};
+ghost use Rattle.table.specs.Rules.{acceptable, roster_holds, over_limit, holds, slots_within_total, senders_listed, within_limits, share_within_total};
 ghost use Rattle.table.specs.Words.{table_of};
+ghost use Rattle.rule_limits.specs.Apart.{other_address};
 ghost use Rattle.rule_limits.specs.Tally.{tallied, addresses_of, calls_each};
 
-use lists::{larger, number_if};
+use lists::select;
 use occupancy::{is_used, marked_below, open_calls, used_below};
 use table::layout::Words;
+use table::share::bad_share;
 use table::total::total_for;
 use table_words::calls::call_head;
-use table_words::customers::{CustomerHead, customer_head};
+use table_words::customers::customer_head;
 use table_words::head::{address, epoch, form, listed};
 
-// Limit 0, limit above the total, or guarantee above limit.
-fn bad_share(total: usize, c: CustomerHead) -> bool
-    ensures { result ≡ bad_share total (record { address = c.address; guarantee = c.guarantee; limit = c.limit }) }
+// Customer k's address is that of none before it, where both are listed.
+#[tactic(auto, using(lists::proofs::Below::every_none, lists::proofs::Below::every_turn))]
+fn is_apart(t: &Words, listed: usize, k: usize) -> bool
+    requires { (listed ≡ (table_of t.now).listed) × (k < 8) }
+    ensures { result ≡ every_below (other_address (table_of t.now) k) k }
 {
-    (c.limit == 0) | (total < c.limit) | (c.limit < c.guarantee)
+    let c = customer_head(t, k);
+    let mut apart = true;
+    for j in 0..k {
+        let d = customer_head(t, j);
+        apart &= !((j < listed) & ((k < listed) & (d.address == c.address)));
+    }
+    apart
 }
 
 // Good guarantees and limits, addresses listed once, and guarantees that come to no more than the total.
@@ -33,19 +44,12 @@ fn is_acceptable(t: &Words) -> bool
     let listed = listed(t);
     let mut bad = false;
     let mut apart = true;
-    let mut sum: usize = 0;
-    let mut k: usize = 0;
-    while k < 8 {
+    let mut sum = 0;
+    for k in 0..8 {
         let c = customer_head(t, k);
-        let mut j: usize = 0;
-        while j < k {
-            let d = customer_head(t, j);
-            apart = apart & !((j < listed) & ((k < listed) & (d.address == c.address)));
-            j += 1;
-        }
-        bad = bad | ((k < listed) & bad_share(total, c));
-        sum += number_if(k < listed, c.guarantee);
-        k += 1;
+        bad |= (k < listed) & bad_share(total, c.guarantee, c.limit);
+        apart &= is_apart(t, listed, k);
+        sum += select(k < listed, c.guarantee, 0);
     }
     !bad & apart & (sum <= total)
 }
@@ -67,11 +71,8 @@ fn tally(counts: &mut [u32; 8], addresses: &[u32; 8], sender: u32)
     requires { (length counts.old ≡ 8) × ((k : ℕ) → k < 8 → get_or counts.old k 0 < slots) }
     ensures { counts.new ≡ tallied counts.old addresses.now sender }
 {
-    let mut k: usize = 0;
-    while k < 8 {
-        let here = addresses[k] == sender;
-        counts[k] = counts[k] + (here as u32);
-        k += 1;
+    for k in 0..8 {
+        counts[k] += u32::from(addresses[k] == sender);
     }
 }
 
@@ -80,11 +81,8 @@ fn addresses(t: &Words) -> [u32; 8]
     ensures { result ≡ addresses_of (table_of t.now) }
 {
     let mut a = [0u32; 8];
-    let mut k: usize = 0;
-    while k < 8 {
-        let m = customer_head(t, k);
-        a[k] = m.address;
-        k += 1;
+    for k in 0..8 {
+        a[k] = customer_head(t, k).address;
     }
     a
 }
@@ -96,13 +94,10 @@ fn count_calls(counts: &mut [u32; 8], t: &Words)
 {
     let a = addresses(t);
     let n = used_below(t);
-    let mut i: usize = 0;
-    while i < n {
+    for i in 0..n {
         if is_used(t, i) {
-            let c = call_head(t, i);
-            tally(counts, &a, c.sender);
+            tally(counts, &a, call_head(t, i).sender);
         }
-        i += 1;
     }
 }
 
@@ -121,16 +116,14 @@ pub fn share_sums(t: &Words) -> Shares
     let mut counts = [0u32; 8];
     count_calls(&mut counts, t);
     let mut over = false;
-    let mut sum: usize = 0;
-    let mut known: usize = 0;
-    let mut k: usize = 0;
-    while k < 8 {
+    let mut sum = 0;
+    let mut known = 0;
+    for k in 0..8 {
         let m = customer_head(t, k);
         let calls = counts[k] as usize;
-        over = over | ((k < listed) & (m.limit < calls));
-        sum += number_if(k < listed, larger(calls, m.guarantee));
-        known += number_if(k < listed, calls);
-        k += 1;
+        over |= (k < listed) & (m.limit < calls);
+        sum += select(k < listed, calls.max(m.guarantee), 0);
+        known += select(k < listed, calls, 0);
     }
     Shares { over, sum, known }
 }

@@ -1,5 +1,5 @@
-// The exact way to see that no pair has a short or a long Call ID, or a request, twice: every two open calls are compared. It is gone
-// where the keys of a table meet in few chains (rule_keys): it takes as long whatever the calls' IDs are.
+// The exact way to see that no pair has a short or a long Call ID, or a request, twice: every two open calls are compared.
+// It is gone where the keys of a table meet in few chains (rule_keys): it takes as long whatever the calls' IDs are.
 #![tactic(auto)]
 
 ghost use Rattle.std.specs.Prelude.{◌≡◌, true, ◌&&◌, ◌<◌};
@@ -12,7 +12,6 @@ ghost use Rattle.rule_uniqueness.specs.Conflict.{conflict, entry_at, apart_at, N
 use occupancy::{is_used, used_below};
 use table::layout::Words;
 use table_words::calls::{call_head, same_names};
-use table_words::ids::same_call;
 
 // Two slots' calls are of one pair and have the same short ID, the same long ID or, both made by the node, the same request.
 // Zeros stand behind the names: so they are the same where their lengths and all of their words are. No branches: all
@@ -29,35 +28,33 @@ fn in_conflict(t: &Words, j: usize, i: usize) -> bool
         & (d.made == 1)
         & (c.epoch == d.epoch)
         & (c.identifier == d.identifier);
-    pair & (same_call(c.id, d.id) | long | request)
+    pair & ((c.id == d.id) | long | request)
 }
 
 // A slot's call is in conflict with none of the earlier ones.
+#[tactic(auto, using(lists::proofs::Below::every_none, lists::proofs::Below::every_turn))]
 fn apart_from_earlier(t: &Words, i: usize) -> bool
     requires { (i < slots) × NamesEnd (table_of t.now) }
     ensures { result ≡ every_below (apart_at (table_of t.now) i) i }
 {
     let used = is_used(t, i);
     let mut apart = true;
-    let mut j: usize = 0;
-    while j < i {
-        apart = apart & !(is_used(t, j) & (used & in_conflict(t, j, i)));
-        j += 1;
+    for j in 0..i {
+        apart &= !(is_used(t, j) & (used & in_conflict(t, j, i)));
     }
     apart
 }
 
 // Names and zeros are tested before: so the names end where their lengths say.
+#[tactic(auto, using(lists::proofs::Pairs::pairs_none, lists::proofs::Pairs::outer_turn))]
 pub fn ids_once(t: &Words) -> bool
     requires { (holds names_and_ids (table_of t.now) ≡ true) × (holds free_holds_zeros (table_of t.now) ≡ true) }
     ensures { result ≡ (holds short_ids_once (table_of t.now) && holds long_ids_once (table_of t.now) && holds requests_once (table_of t.now)) }
 {
     let n = used_below(t);
     let mut apart = true;
-    let mut i: usize = 0;
-    while i < n {
-        apart = apart & apart_from_earlier(t, i);
-        i += 1;
+    for i in 0..n {
+        apart &= apart_from_earlier(t, i);
     }
     apart
 }

@@ -1,4 +1,5 @@
 // The rules on names, Call IDs and refreshes, and that what is free holds zeros.
+// Kept: numbers with a bound in each contract (table::layout says why).
 #![tactic(auto)]
 
 ghost use Rattle.std.specs.Prelude.{◌≡◌, cond, ◌&&◌, ◌||◌, ◌<◌, eqb, ltb, leb};
@@ -8,12 +9,11 @@ ghost use Rattle.table.specs.Word.{is_used};
 ghost use Rattle.table.specs.Lists.{call_at, customer_at, place_at, is_taken};
 ghost use Rattle.table.specs.Rules.{valid_ids, call_free_clear, call_clear, kept_tidy, customer_free_clear, customer_clear, slot_free_clear, record_free_clear, holds, names_and_ids, refreshes_past, free_holds_zeros};
 ghost use Rattle.table.specs.Words.{table_of};
-ghost use Rattle.table_words.specs.Fours.{four_at_word, FourInside};
-ghost use Rattle.rule_zeros.specs.Masks.{past_masks};
+ghost use Rattle.table_words.specs.Fours.{four_at_word};
 
 mod names;
 
-use crate::names::{PAST, ends_at};
+use crate::names::ends_at;
 use fours::four_valid;
 use occupancy::{is_used, used_below};
 use table::layout::Words;
@@ -36,8 +36,8 @@ fn request_tidy(c: CallHead) -> bool
 // An open call: a name of 1 to 32 bytes that ends in a byte that is not zero, a Call ID of sixteen bits that is not 0,
 // no refresh after the node's time, zeros past the name and in the places that are not taken, and a request only where the
 // node made the call.
-fn call_tidy(masks: &[u32; 64], t: &Words, time: u32, i: usize) -> bool
-    requires { (i < slots) × (masks.now ≡ past_masks) }
+fn call_tidy(t: &Words, time: u32, i: usize) -> bool
+    requires { i < slots }
     ensures { result ≡ (valid_ids (call_at (table_of t.now) i) && leb (call_at (table_of t.now) i).refreshed time && call_free_clear (call_at (table_of t.now) i)) }
 {
     let c = call_head(t, i);
@@ -46,48 +46,44 @@ fn call_tidy(masks: &[u32; 64], t: &Words, time: u32, i: usize) -> bool
     }
     is_call_id(c.id)
         & (c.refreshed <= time)
-        & ends_at(masks, t, i, c.size as usize)
+        & ends_at(t, i, c.size as usize)
         & request_tidy(c)
         & four_valid(t, call_four(t, i))
 }
 
-fn slot_tidy(masks: &[u32; 64], t: &Words, time: u32, i: usize) -> bool
-    requires { (i < slots) × (masks.now ≡ past_masks) }
+fn slot_tidy(t: &Words, time: u32, i: usize) -> bool
+    requires { i < slots }
     ensures { result ≡ cond (is_used (table_of t.now).occupied i) (valid_ids (call_at (table_of t.now) i) && leb (call_at (table_of t.now) i).refreshed time && call_free_clear (call_at (table_of t.now) i)) (call_clear (call_at (table_of t.now) i)) }
 {
     if is_used(t, i) {
-        return call_tidy(masks, t, time, i);
+        return call_tidy(t, time, i);
     }
     call_clear(t, i)
 }
 
 // Names, IDs, refreshes and zeros in one pass. The slots past the last used one are free: their words are tested in one row.
+#[tactic(auto, using(lists::proofs::Below::every_none, lists::proofs::Below::every_turn))]
 fn slots_tidy(t: &Words) -> bool
     ensures { result ≡ (holds names_and_ids (table_of t.now) && holds refreshes_past (table_of t.now) && every_below (slot_free_clear (table_of t.now)) slots) }
 {
-    let masks = PAST;
     let time = time(t);
     let n = used_below(t);
     let mut tidy = true;
-    let mut i: usize = 0;
-    while i < n {
-        tidy = tidy & slot_tidy(&masks, t, time, i);
-        i += 1;
+    for i in 0..n {
+        tidy &= slot_tidy(t, time, i);
     }
     tidy & calls_clear_from(t, n)
 }
 
 // An end point stands beside a taken place.
+#[tactic(auto, using(lists::proofs::Below::every_none, lists::proofs::Below::every_turn))]
 fn endpoints_clear(t: &Words, f: FourPlace) -> bool
-    requires { FourInside f }
     ensures { result ≡ every_below (λ j. is_taken (place_at (four_at_word t.now f) j) || eqb ((four_at_word t.now f).endpoint j) 0) 4 }
 {
     let mut clear = true;
-    let mut j: usize = 0;
-    while j < 4 {
+    for j in 0..4 {
         let p = place_words(t, f, j);
-        clear = clear & ((p.taken == 1) | (endpoint_at(t, f, j) == 0));
-        j += 1;
+        clear &= (p.taken == 1) | (endpoint_at(t, f, j) == 0);
     }
     clear
 }
@@ -122,15 +118,14 @@ fn record_free_clear(t: &Words, listed: usize, k: usize) -> bool
     customer_clear(t, k)
 }
 
+#[tactic(auto, using(lists::proofs::Below::every_none, lists::proofs::Below::every_turn))]
 fn records_free_clear(t: &Words) -> bool
     ensures { result ≡ every_below (record_free_clear (table_of t.now)) 8 }
 {
     let listed = listed(t);
     let mut clear = true;
-    let mut k: usize = 0;
-    while k < 8 {
-        clear = clear & record_free_clear(t, listed, k);
-        k += 1;
+    for k in 0..8 {
+        clear &= record_free_clear(t, listed, k);
     }
     clear
 }

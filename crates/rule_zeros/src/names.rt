@@ -4,14 +4,13 @@ ghost use Rattle.numbers.specs.Search.{zeros_at};
 ghost use Rattle.table.specs.Total.{slots};
 ghost use Rattle.table.specs.Lists.{call_at};
 ghost use Rattle.table.specs.Words.{table_of};
-ghost use Rattle.rule_zeros.specs.Masks.{past_masks};
 
 use table::layout::Words;
 use table_words::names::name_word;
 
 // The masks of the bytes past a name of n bytes: those of its eight words stand in row n % 4, from the place 8 - n / 4
 // on.
-pub const PAST: [u32; 64] = [
+static PAST: [u32; 64] = [
     0,
     0,
     0,
@@ -78,10 +77,9 @@ pub const PAST: [u32; 64] = [
     0xffff_ffff,
 ];
 
-// A name ends at its size, which the caller has tested: its last byte is not zero, and zeros stand past it. The masks are
-// lent: a constant array is stored anew wherever it is named.
-pub fn ends_at(masks: &[u32; 64], t: &Words, i: usize, size: usize) -> bool
-    requires { (i < slots) × (0 < size) × (size ≤ 32) × (masks.now ≡ past_masks) }
+// A name ends at its size, which the caller has tested: its last byte is not zero, and zeros stand past it.
+pub fn ends_at(t: &Words, i: usize, size: usize) -> bool
+    requires { (i < slots) × (0 < size) × (size ≤ 32) }
     ensures { result ≡ (zeros_at (call_at (table_of t.now) i).name size (32 - size) && not (eqb (get_or (call_at (table_of t.now) i).name (size - 1) 0) 0)) }
 {
     let row = 16 * (size % 4) + 8 - size / 4;
@@ -89,12 +87,10 @@ pub fn ends_at(masks: &[u32; 64], t: &Words, i: usize, size: usize) -> bool
     let before = 16 * (last % 4) + 8 - last / 4;
     let mut clear = true;
     let mut ends = false;
-    let mut k: usize = 0;
-    while k < 8 {
+    for k in 0..8 {
         let w = name_word(t, i, k);
-        clear = clear & (w & masks[row + k] == 0);
-        ends = ends | (w & masks[before + k] != 0);
-        k += 1;
+        clear &= w & PAST[row + k] == 0;
+        ends |= w & PAST[before + k] != 0;
     }
     clear & ends
 }

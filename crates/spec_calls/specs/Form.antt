@@ -1,11 +1,10 @@
 -- The tests 2 to 13 and 16, on what the caller hands in and on what is kept of the senders (01, Every answer; 02, A8): a
 -- fault of form, or the message that has none.
-use Rattle.std.specs.Prelude.{ℕ, List, cond, ltb}
+use Rattle.std.specs.Prelude.{ℕ, List, cond, ltb, Ok, Err}
 use Rattle.messages.specs.declared.message.Message.{Message}
 use Rattle.messages.specs.declared.message.Message.TheVariants.{Open, Close, Add, Drop}
-use Rattle.messages.specs.declared.read.Reading.{Reading}
-use Rattle.messages.specs.declared.read.Reading.TheVariants.{Refused, Unfit, Read}
-use Rattle.messages.specs.Read.{read_of}
+use Rattle.messages.specs.declared.read.Refusal.TheVariants.{Misformed, Unfit}
+use Rattle.messages.specs.Read.{Reading, read_of}
 use Rattle.reply_objects.specs.Buffer.{least_buffer}
 use Rattle.table.specs.Lists.{Terms}
 use Rattle.table.specs.Share.{is_listed}
@@ -34,9 +33,9 @@ sound_or16 k message = cond (is_late_message k message) (faulty Late) (sound mes
 
 -- 3 to 10, then 11, then 12 and 13, then 16, by what is kept of each sender
 abbrev pub read_form : List Terms → (ℕ → Last) → Reading → Form
-read_form r k (Refused fault offset headers) = faulty (Malformed fault)
-read_form r k (Unfit fault sender headers) = listed_or11 r sender (faulty (Malformed fault))
-read_form r k (Read message headers) = listed_or11 r (sender_of message) (sound_or16 k message)
+read_form r k (Err (Misformed fault offset headers)) = faulty (Malformed fault)
+read_form r k (Err (Unfit fault sender headers)) = listed_or11 r sender (faulty (Malformed fault))
+read_form r k (Ok read) = listed_or11 r (sender_of read.message) (sound_or16 k read.message)
 
 -- 2 comes first, also for messages that never get a reply
 unfoldable pub form_of : List Terms → (ℕ → Last) → List ℕ → ℕ → Form

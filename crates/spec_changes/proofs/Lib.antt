@@ -21,3 +21,4 @@ pub mod Fresh
 pub mod Freed
 pub mod Expired
 pub mod Refreshed
+pub mod Firsts

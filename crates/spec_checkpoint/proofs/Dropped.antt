@@ -13,11 +13,10 @@ use Rattle.lists.specs.Count.{bit, count_if}
 use Rattle.lists.proofs.Tests.{both}
 use Rattle.lists.proofs.Count.{count_all}
 use Rattle.lists.proofs.Below.{count_none, count_below_lem}
-use Rattle.table.specs.declared.answer.RosterAnswer.TheVariants.{Accepted}
 use Rattle.table.specs.Table.{Table}
 use Rattle.table.specs.Word.{is_used}
 use Rattle.table.specs.Lists.{entries, held}
-use Rattle.table.specs.Roster.{roster_number, roster_answer, fresh_table, table_for, form_in}
+use Rattle.table.specs.Roster.{Accepted, roster_number, roster_answer, fresh_table, table_for, form_in}
 use Rattle.table.proofs.Fresh.{fresh_entries, fresh_held}
 use Rattle.spec_changes.specs.Connections.{added}
 use Rattle.spec_changes.proofs.Added.{added_entries, added_held}

@@ -1,6 +1,7 @@
 -- What reading a checkpoint promises (02, A13): the rules hold whatever bytes are read, plain reading refuses exactly
 -- what salvage would drop, and demand 3 goes on from the table that is read.
 -- Assumes nothing.
+use Rattle.std.specs.Prelude.{Ok, Err}
 use Prim.Native.Nat.{ℕ, ◌/◌, ◌≤◌, ◌<◌}
 use native.Mathlib.Omega.{arith}
 use mathlib.Core.Path.{◌≡◌, refl, sym, ap, ◌∙◌}
@@ -11,14 +12,13 @@ use lib.ListN.{length, get_or-eq_default}
 use borrow.Author.Tests.{eq-eqb, eqb-true, ltb-true, ltb-false}
 use Rattle.numbers.specs.BigEndian.{Bytes}
 use Rattle.numbers.specs.Search.{is_in}
-use Rattle.table.specs.declared.answer.RosterAnswer.{RosterAnswer}
-use Rattle.table.specs.declared.answer.RosterAnswer.TheVariants.{Accepted, Short, BadForm, Length, SpareBits, Share, Repeated, Guarantees}
+use Rattle.table.specs.declared.answer.RosterFault.TheVariants.{Short, BadForm, Length, SpareBits, Share, Repeated, Guarantees}
 use Rattle.table.specs.Total.{total_for, total_of}
 use Rattle.table.specs.Word.{bits, is_used, FourWords}
 use Rattle.table.specs.Zeros.{empty_table}
 use Rattle.table.specs.Lists.{entries}
 use Rattle.table.specs.Rules.{rules_hold}
-use Rattle.table.specs.Roster.{total_in, roster_number, roster_answer, fresh_table, table_for, form_in}
+use Rattle.table.specs.Roster.{RosterAnswer, Accepted, total_in, roster_number, roster_answer, fresh_table, table_for, form_in}
 use Rattle.table.proofs.Slots.{none_used}
 use Rattle.table.proofs.Within.{rules_within, used_within}
 use Rattle.table.proofs.Fresh.{all_free, fresh_holds, empty_holds, fresh_roster}
@@ -107,17 +107,17 @@ plain_72 r s = by (roster_answer r) (bad_size s) (not (eqb (form_in s) 1)) (drop
     by : (a : RosterAnswer) (b c d : Bool) → drops_none (from_checkpoint r s) ≡ d
         → eqb (cond (not (eqb (roster_number a) 0)) (unrestored (roster_number a) (table_for a r)) (cond b (unrestored 70 (fresh_table r)) (cond c (unrestored 71 (fresh_table r)) (cond d (from_checkpoint r s) (unrestored 72 (fresh_table r)))))).answer 72
         ≡ not (drops_none (cond (not (eqb (roster_number a) 0)) (unrestored (roster_number a) (table_for a r)) (cond b (unrestored 70 (fresh_table r)) (cond c (unrestored 71 (fresh_table r)) (from_checkpoint r s)))))
-    by Accepted true c d q = refl
-    by Accepted false true d q = refl
-    by Accepted false false true q = rw q
-    by Accepted false false false q = rw q
-    by Short b c d q = refl
-    by BadForm b c d q = refl
-    by Length b c d q = refl
-    by SpareBits b c d q = refl
-    by Share b c d q = refl
-    by Repeated b c d q = refl
-    by Guarantees b c d q = refl
+    by (Ok _) true c d q = refl
+    by (Ok _) false true d q = refl
+    by (Ok _) false false true q = rw q
+    by (Ok _) false false false q = rw q
+    by (Err Short) b c d q = refl
+    by (Err BadForm) b c d q = refl
+    by (Err Length) b c d q = refl
+    by (Err SpareBits) b c d q = refl
+    by (Err Share) b c d q = refl
+    by (Err Repeated) b c d q = refl
+    by (Err Guarantees) b c d q = refl
 
 -- ---- within the total
 

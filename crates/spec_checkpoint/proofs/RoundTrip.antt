@@ -16,11 +16,10 @@ use Rattle.lists.specs.Below.{element_if, below}
 use Rattle.lists.proofs.Tests.{split}
 use Rattle.lists.proofs.Count.{count_append}
 use Rattle.table.specs.Table.{Table}
-use Rattle.table.specs.declared.answer.RosterAnswer.TheVariants.{Accepted}
 use Rattle.table.specs.Total.{slots}
 use Rattle.table.specs.Word.{bits, is_used}
 use Rattle.table.specs.Lists.{customer_at, roster, Entry, call_at, entries, Held, call_four, customer_four, held_in, held_at, standalone_at, held}
-use Rattle.table.specs.Roster.{form_in, customers_in, records_in, roster_answer, fresh_table}
+use Rattle.table.specs.Roster.{Accepted, form_in, customers_in, records_in, roster_answer, fresh_table}
 use Rattle.table.proofs.Slots.{words_same}
 use Rattle.table.proofs.Within.{total_most}
 use Rattle.table.proofs.Fresh.{fresh_holds, fresh_roster, fresh_entries, fresh_held}

@@ -12,9 +12,9 @@ use Rattle.lists.proofs.Tests.{both}
 use Rattle.lists.proofs.Count.{has_true, has_false, true_has, has_nothing, has_less, count_ext, count_le, count_split, count_without}
 use Rattle.messages.specs.declared.message.Message.{Message}
 use Rattle.messages.specs.declared.message.Message.TheVariants.{Open, Close, Add, Drop}
-use Rattle.messages.specs.declared.read.Reading.{Reading}
-use Rattle.messages.specs.declared.read.Reading.TheVariants.{Refused, Unfit, Read}
-use Rattle.messages.specs.Read.{read_of}
+use Rattle.std.specs.Prelude.{Ok, Err}
+use Rattle.messages.specs.declared.read.Refusal.TheVariants.{Misformed, Unfit}
+use Rattle.messages.specs.Read.{Reading, read_of}
 use Rattle.table.specs.Table.{Table}
 use Rattle.table.specs.Total.{total_of}
 use Rattle.table.specs.Lists.{Ids, Entry, call_at, ids_of, entries, Held, held}
@@ -75,9 +75,9 @@ opened_more total l s p = by (read_of s)
     of (Drop c) = omega arith
 
     by : (r : Reading) → count_if p l ≤ count_if p (read_opened total l s r)
-    by (Refused fault offset headers) = omega arith
-    by (Unfit fault sender headers) = omega arith
-    by (Read m headers) = of m
+    by (Err (Misformed fault offset headers)) = omega arith
+    by (Err (Unfit fault sender headers)) = omega arith
+    by (Ok read) = of read.message
 
 stays : (l k : List Entry) (c d : Ids) (b r : Bool) → count_if (is_call c) l ≤ count_if (is_call c) k → (r ≡ true → (e : Entry) → (is_call d e && is_call c e) ≡ false)
     → 0 < count_if (is_call c) l → 0 < count_if (is_call c) (cond b k (cond r (without (is_call d) l) l))

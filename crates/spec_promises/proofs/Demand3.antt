@@ -1,5 +1,6 @@
 -- Demand 3 (01, The ledger behind demand 3): the answers keep the ledger's promises, over every list of messages.
 -- Assumes nothing.
+use Rattle.std.specs.Prelude.{Ok, Err}
 use Prim.Native.Nat.{ℕ, ◌+◌, ◌≤◌, ◌<◌}
 use native.Mathlib.Omega.{arith}
 use mathlib.Core.Path.{◌≡◌, refl, sym, ap, ◌∙◌, subst}
@@ -15,14 +16,13 @@ use Rattle.lists.proofs.Tests.{both}
 use Rattle.lists.proofs.Count.{count_le, count_split, count_without, count_share, without_same}
 use Rattle.messages.specs.declared.message.CallRequest.{CallRequest}
 use Rattle.messages.specs.declared.message.Message.TheVariants.{Open, Close, Add, Drop}
-use Rattle.table.specs.declared.answer.RosterAnswer.{RosterAnswer}
-use Rattle.table.specs.declared.answer.RosterAnswer.TheVariants.{Accepted, Short, BadForm, Length, SpareBits, Share, Repeated, Guarantees}
+use Rattle.table.specs.declared.answer.RosterFault.TheVariants.{Short, BadForm, Length, SpareBits, Share, Repeated, Guarantees}
 use Rattle.table.specs.Table.{Table}
 use Rattle.table.specs.Total.{total_for, total_of}
 use Rattle.table.specs.Lists.{Terms, roster, Ids, Entry, entries, Held, held}
 use Rattle.table.specs.Share.{is_listed, limit_of, from, calls_of}
 use Rattle.table.specs.Rules.{same_pair, same_short, same_long, is_lsp}
-use Rattle.table.specs.Roster.{roster_number, customers_in, total_in, records_in, roster_answer, fresh_table, table_for}
+use Rattle.table.specs.Roster.{RosterAnswer, Accepted, roster_number, customers_in, total_in, records_in, roster_answer, fresh_table, table_for}
 use Rattle.table.proofs.Fresh.{fresh_holds, fresh_roster, fresh_entries, fresh_held}
 use Rattle.spec_changes.specs.Calls.{is_call}
 use Rattle.spec_changes.proofs.Told.{roster_kept, guarantee_within, rules_kept}
@@ -239,14 +239,14 @@ fresh_agrees s bytes e = record { shape = fresh_shape s; rules = fresh_holds s b
 
 -- 0 is the accepted roster's answer, which returns the fresh table
 pub accepted : (a : RosterAnswer) → roster_number a ≡ 0 → a ≡ Accepted
-accepted Accepted e = refl
-accepted Short e = let z : ⊥ = omega arith in absurd z
-accepted BadForm e = let z : ⊥ = omega arith in absurd z
-accepted Length e = let z : ⊥ = omega arith in absurd z
-accepted SpareBits e = let z : ⊥ = omega arith in absurd z
-accepted Share e = let z : ⊥ = omega arith in absurd z
-accepted Repeated e = let z : ⊥ = omega arith in absurd z
-accepted Guarantees e = let z : ⊥ = omega arith in absurd z
+accepted (Ok _) e = refl
+accepted (Err Short) e = let z : ⊥ = omega arith in absurd z
+accepted (Err BadForm) e = let z : ⊥ = omega arith in absurd z
+accepted (Err Length) e = let z : ⊥ = omega arith in absurd z
+accepted (Err SpareBits) e = let z : ⊥ = omega arith in absurd z
+accepted (Err Share) e = let z : ⊥ = omega arith in absurd z
+accepted (Err Repeated) e = let z : ⊥ = omega arith in absurd z
+accepted (Err Guarantees) e = let z : ⊥ = omega arith in absurd z
 
 table_agrees : (s : List ℕ) → Bytes s → roster_number (roster_answer s) ≡ 0 → Agrees (table_for (roster_answer s) s) []
 unfolding table_for

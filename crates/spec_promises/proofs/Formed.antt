@@ -12,9 +12,9 @@ use Rattle.numbers.specs.Search.{is_in}
 use Rattle.objects.specs.declared.fault.Fault.{Fault}
 use Rattle.objects.specs.declared.fault.Fault.TheVariants.{MessageLength, Version, Checksum, MessageType, ObjectLength, ObjectClass, ObjectForm, ObjectCount, NotCallRequest, CallIdentity}
 use Rattle.messages.specs.declared.message.Message.{Message}
-use Rattle.messages.specs.declared.read.Reading.{Reading}
-use Rattle.messages.specs.declared.read.Reading.TheVariants.{Refused, Unfit, Read}
-use Rattle.messages.specs.Read.{read_of}
+use Rattle.std.specs.Prelude.{Ok, Err}
+use Rattle.messages.specs.declared.read.Refusal.TheVariants.{Misformed, Unfit}
+use Rattle.messages.specs.Read.{Reading, read_of}
 use Rattle.messages.specs.Inside.{Inside}
 use Rattle.messages.proofs.Inside.{read_inside}
 use Rattle.reply_objects.specs.Buffer.{least_buffer}
@@ -86,10 +86,10 @@ module _ (r : List Terms) (k : ℕ → Last) (s : List ℕ) where
 
   read_says : (x : Reading) → read_of s ≡ x → Says r s (read_form r k x)
   unfolding four_of with_opened held_of last_from
-  read_says (Refused fault offset headers) e = numbered fault
-  read_says (Unfit fault sender headers) e = listed_says sender (faulty (Malformed fault)) (λ h. numbered fault)
-  read_says (Read m headers) e = listed_says (sender_of m) (sound_or16 k m)
-      (λ h. late_says m (record { known = h; inside = read_inside s m headers e; four = rw e; opened = λ total l. rw e; connection = rw e; lasts = λ sender. rw e }))
+  read_says (Err (Misformed fault offset headers)) e = numbered fault
+  read_says (Err (Unfit fault sender headers)) e = listed_says sender (faulty (Malformed fault)) (λ h. numbered fault)
+  read_says (Ok read) e = listed_says (sender_of read.message) (sound_or16 k read.message)
+      (λ h. late_says read.message (record { known = h; inside = read_inside s read.message read.headers e; four = rw e; opened = λ total l. rw e; connection = rw e; lasts = λ sender. rw e }))
 
   pub form_says : (room : ℕ) → Says r s (form_of r k s room)
   unfolding form_of

@@ -12,9 +12,9 @@ use Rattle.objects.specs.declared.fault.Fault.{Fault}
 use Rattle.objects.specs.declared.fault.Fault.TheVariants.{MessageLength, Version, Checksum, MessageType, ObjectLength, ObjectClass, ObjectForm, ObjectCount, NotCallRequest, CallIdentity}
 use Rattle.messages.specs.declared.message.Message.{Message}
 use Rattle.messages.specs.declared.message.Message.TheVariants.{Open, Close, Add, Drop}
-use Rattle.messages.specs.declared.read.Reading.{Reading}
-use Rattle.messages.specs.declared.read.Reading.TheVariants.{Refused, Unfit, Read}
-use Rattle.messages.specs.Read.{read_of}
+use Rattle.std.specs.Prelude.{Ok, Err}
+use Rattle.messages.specs.declared.read.Refusal.TheVariants.{Misformed, Unfit}
+use Rattle.messages.specs.Read.{Reading, refused, read_of}
 use Rattle.reply_objects.specs.Buffer.{least_buffer}
 use Rattle.table.specs.Table.{Table}
 use Rattle.table.specs.Total.{total_of}
@@ -75,9 +75,9 @@ module _ (t : Table) (s : List ℕ) where
       by false = sound_later m
 
   read_later : (r : Reading) → at_once (form_answer t s (read_form (roster t) (last_of t) r)) ≡ false
-  read_later (Refused fault offset headers) = fault_later fault
-  read_later (Unfit fault sender headers) = listed_later sender (faulty (Malformed fault)) (fault_later fault)
-  read_later (Read m headers) = listed_later (sender_of m) (sound_or16 (last_of t) m) (late_later m)
+  read_later (Err (Misformed fault offset headers)) = fault_later fault
+  read_later (Err (Unfit fault sender headers)) = listed_later sender (faulty (Malformed fault)) (fault_later fault)
+  read_later (Ok read) = listed_later (sender_of read.message) (sound_or16 (last_of t) read.message) (late_later read.message)
 
   answer_later : (room : ℕ) → ltb room least_buffer ≡ false → at_once (answer_from2 t s room) ≡ false
   unfolding form_of

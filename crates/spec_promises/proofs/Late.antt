@@ -16,9 +16,9 @@ use Rattle.lists.proofs.Count.{has_cons}
 use Rattle.messages.specs.declared.message.CallRequest.{CallRequest}
 use Rattle.messages.specs.declared.message.Message.{Message}
 use Rattle.messages.specs.declared.message.Message.TheVariants.{Open, Close, Add, Drop}
-use Rattle.messages.specs.declared.read.Reading.{Reading}
-use Rattle.messages.specs.declared.read.Reading.TheVariants.{Refused, Unfit, Read}
-use Rattle.messages.specs.Read.{read_of}
+use Rattle.std.specs.Prelude.{Ok, Err}
+use Rattle.messages.specs.declared.read.Refusal.TheVariants.{Misformed, Unfit}
+use Rattle.messages.specs.Read.{Reading, read_of}
 use Rattle.reply_objects.specs.Buffer.{least_buffer}
 use Rattle.table.specs.Table.{Table}
 use Rattle.table.specs.Total.{total_of}
@@ -57,12 +57,12 @@ module _ (r : List Terms) (k j : ℕ → Last) (same : (sender : ℕ) → is_lis
 
   read_same : (x : Reading) → read_form r k x ≡ read_form r j x
   unfolding listed_or11 sound_or16
-  read_same (Refused fault offset headers) = refl
-  read_same (Unfit fault sender headers) = refl
-  read_same (Read m headers) = by (is_listed r (sender_of m)) (late_same m)
+  read_same (Err (Misformed fault offset headers)) = refl
+  read_same (Err (Unfit fault sender headers)) = refl
+  read_same (Ok read) = by (is_listed r (sender_of read.message)) (late_same read.message)
     where
-      by : (b : Bool) → (b ≡ true → is_late_message k m ≡ is_late_message j m) → cond b (sound_or16 k m) (faulty SenderNotListed) ≡ cond b (sound_or16 j m) (faulty SenderNotListed)
-      by true h = ap (λ (b : Bool). cond b (faulty Late) (sound m)) (h refl)
+      by : (b : Bool) → (b ≡ true → is_late_message k read.message ≡ is_late_message j read.message) → cond b (sound_or16 k read.message) (faulty SenderNotListed) ≡ cond b (sound_or16 j read.message) (faulty SenderNotListed)
+      by true h = ap (λ (b : Bool). cond b (faulty Late) (sound read.message)) (h refl)
       by false h = refl
 
 pub form_same : FormSame
@@ -178,16 +178,16 @@ module _ (r : List Terms) (k : ℕ → Last) where
 
   read_then : (x : Reading) → read_form r k x ≡ then_late k (read_form r (λ sender. none) x)
   unfolding listed_or11
-  read_then (Refused fault offset headers) = refl
-  read_then (Unfit fault sender headers) = by (is_listed r sender)
+  read_then (Err (Misformed fault offset headers)) = refl
+  read_then (Err (Unfit fault sender headers)) = by (is_listed r sender)
     where
       by : (b : Bool) → cond b (faulty (Malformed fault)) (faulty SenderNotListed) ≡ then_late k (cond b (faulty (Malformed fault)) (faulty SenderNotListed))
       by true = refl
       by false = refl
-  read_then (Read m headers) = by (is_listed r (sender_of m))
+  read_then (Ok read) = by (is_listed r (sender_of read.message))
     where
-      by : (b : Bool) → cond b (sound_or16 k m) (faulty SenderNotListed) ≡ then_late k (cond b (sound_or16 (λ sender. none) m) (faulty SenderNotListed))
-      by true = none_late m
+      by : (b : Bool) → cond b (sound_or16 k read.message) (faulty SenderNotListed) ≡ then_late k (cond b (sound_or16 (λ sender. none) read.message) (faulty SenderNotListed))
+      by true = none_late read.message
       by false = refl
 
   form_then : (s : List ℕ) (room : ℕ) → form_of r k s room ≡ then_late k (form_of r (λ sender. none) s room)

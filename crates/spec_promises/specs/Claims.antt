@@ -6,8 +6,7 @@ use Rattle.numbers.specs.Checksum.{words_sum}
 use Rattle.lists.specs.Count.{count_if, has}
 use Rattle.messages.specs.declared.message.CallRequest.{CallRequest}
 use Rattle.messages.specs.declared.message.Message.TheVariants.{Open, Close}
-use Rattle.messages.specs.declared.read.Reading.TheVariants.{Read}
-use Rattle.messages.specs.Read.{read_of}
+use Rattle.messages.specs.Read.{received, read_of}
 use Rattle.messages.specs.Status.{call_bit}
 use Rattle.replies.specs.Messages.{notify_made_bytes}
 use Rattle.table.specs.Table.{Table}
@@ -227,7 +226,7 @@ pub record Overtaken (r : List Terms) (h : List Fed) (x : Input) (q c : CallRequ
   pub before : List Fed
   pub headers : ℕ
   pub fed_then : h ≡ since ++ setup ∷ before
-  pub opening : read_of setup.message ≡ Read (Open q) headers
+  pub opening : read_of setup.message ≡ received (Open q) headers
   pub taken : (is 20 setup.answer || is 21 setup.answer) ≡ true
   pub quiet : has (is_accepted q.sender) since ≡ false
   pub closing : form_of r (λ sender. none) x.message (length x.buffer) ≡ sound (Close c)

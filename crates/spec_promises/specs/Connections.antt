@@ -1,12 +1,10 @@
 -- Which call a lit path belongs to, from messages and answers alone: the connections that were added and not removed
 -- since, each under the Call ID that its Path had.
-use Rattle.std.specs.Prelude.{ℕ, List, [], ◌∷◌, Bool, cond, ◌&&◌, eqb}
+use Rattle.std.specs.Prelude.{ℕ, List, [], ◌∷◌, Bool, cond, ◌&&◌, eqb, Ok, Err}
 use Rattle.lists.specs.Count.{has, without}
 use Rattle.messages.specs.declared.message.Message.{Message}
 use Rattle.messages.specs.declared.message.Message.TheVariants.{Open, Close, Add, Drop}
-use Rattle.messages.specs.declared.read.Reading.{Reading}
-use Rattle.messages.specs.declared.read.Reading.TheVariants.{Refused, Unfit, Read}
-use Rattle.messages.specs.Read.{read_of}
+use Rattle.messages.specs.Read.{Reading, read_of}
 use Rattle.table.specs.Table.{Table}
 use Rattle.table.specs.Lists.{Held, held}
 use Rattle.table.specs.Rules.{is_lsp, same_connection}
@@ -25,9 +23,8 @@ message_held (Add c) = held_by c
 message_held (Drop c) = held_by c
 
 abbrev pub read_held : Reading → Held
-read_held (Refused fault offset headers) = no_held
-read_held (Unfit fault sender headers) = no_held
-read_held (Read message headers) = message_held message
+read_held (Err why) = no_held
+read_held (Ok read) = message_held read.message
 
 unfoldable pub held_of : List ℕ → Held
 held_of s = read_held (read_of s)

@@ -1,13 +1,11 @@
 -- The ledger (01, The ledger behind demand 3): fed with each message, its answer with the closings that it lists, and what
 -- else the caller hands in, never with the table.
-use Rattle.std.specs.Prelude.{ℕ, List, [], ◌∷◌, Bool, cond, ◌&&◌, eqb}
+use Rattle.std.specs.Prelude.{ℕ, List, [], ◌∷◌, Bool, cond, ◌&&◌, eqb, Ok, Err}
 use Rattle.lists.specs.Count.{count_if, has, without, sum_of}
 use Rattle.lists.specs.Below.{first_not}
 use Rattle.messages.specs.declared.message.Message.{Message}
 use Rattle.messages.specs.declared.message.Message.TheVariants.{Open, Close, Add, Drop}
-use Rattle.messages.specs.declared.read.Reading.{Reading}
-use Rattle.messages.specs.declared.read.Reading.TheVariants.{Refused, Unfit, Read}
-use Rattle.messages.specs.Read.{read_of}
+use Rattle.messages.specs.Read.{Reading, read_of}
 use Rattle.table.specs.Lists.{Ids, Entry}
 use Rattle.spec_changes.specs.Calls.{entry_for, is_call}
 use Rattle.spec_changes.specs.Expiry.{Closing}
@@ -37,9 +35,8 @@ message_four s (Add c) = no_four
 message_four s (Drop c) = no_four
 
 abbrev pub read_four : List ℕ → Reading → Ids
-read_four s (Refused fault offset headers) = no_four
-read_four s (Unfit fault sender headers) = no_four
-read_four s (Read message headers) = message_four s message
+read_four s (Err why) = no_four
+read_four s (Ok read) = message_four s read.message
 
 unfoldable pub four_of : List ℕ → Ids
 four_of s = read_four s (read_of s)
@@ -57,9 +54,8 @@ message_opened total l s (Add c) = l
 message_opened total l s (Drop c) = l
 
 abbrev pub read_opened : ℕ → List Entry → List ℕ → Reading → List Entry
-read_opened total l s (Refused fault offset headers) = l
-read_opened total l s (Unfit fault sender headers) = l
-read_opened total l s (Read message headers) = message_opened total l s message
+read_opened total l s (Err why) = l
+read_opened total l s (Ok read) = message_opened total l s read.message
 
 unfoldable pub with_opened : ℕ → List Entry → List ℕ → List Entry
 with_opened total l s = read_opened total l s (read_of s)
@@ -93,9 +89,8 @@ message_last sender (Add c) = none
 message_last sender (Drop c) = none
 
 abbrev pub read_last : ℕ → Reading → Last
-read_last sender (Refused fault offset headers) = none
-read_last sender (Unfit fault other headers) = none
-read_last sender (Read message headers) = message_last sender message
+read_last sender (Err why) = none
+read_last sender (Ok read) = message_last sender read.message
 
 unfoldable pub last_from : ℕ → List ℕ → Last
 last_from sender s = read_last sender (read_of s)

@@ -3,14 +3,13 @@ use Rattle.std.specs.Prelude.{ℕ, zero, suc, ◌+◌, ◌*◌, ◌≡◌, List,
 use Rattle.numbers.specs.BigEndian.{bytes16, bytes32}
 use Rattle.lists.specs.Below.{below, every_below}
 use Rattle.reply_objects.specs.Buffer.{least_buffer}
-use Rattle.table.specs.declared.answer.RosterAnswer.{RosterAnswer}
 use Rattle.table.specs.Table.{Call, Table}
 use Rattle.table.specs.Total.{slots}
 use Rattle.table.specs.Zeros.{empty_table}
 use Rattle.table.specs.Lists.{customer_at, roster, call_at, entries, Four, call_four, customer_four, place_at}
 use Rattle.table.specs.Share.{S}
 use Rattle.table.specs.Rules.{same_bytes}
-use Rattle.table.specs.Roster.{roster_number, roster_answer, table_for}
+use Rattle.table.specs.Roster.{RosterAnswer, roster_number, roster_answer, table_for}
 use Rattle.answers.specs.Answers.{answer_number}
 use Rattle.spec_calls.specs.Handling.{Handled}
 use Rattle.starred_cases.specs.Run.{StepTo, table_through, at_rest}

@@ -1,6 +1,6 @@
 -- Every table rule holds on the table of an accepted roster, and on the empty one.
 -- Assumes nothing.
-use Rattle.std.proofs.Common.{◌≡◌, ℕ, zero, suc, ◌+◌, ◌*◌, ◌/◌, ◌<◌, ◌≤◌, max, Bool, true, false, cond, not, ◌||◌, eqb, ltb, List, [], ◌∷◌, length, get_or, replicate, sym, refl, ◌∙◌, zero-add, arith, ltb-false, le-ltb, lt-ltb, ne_eqb, le-leb}
+use Rattle.std.proofs.Common.{◌≡◌, ℕ, zero, suc, ◌+◌, ◌*◌, ◌/◌, ◌<◌, ◌≤◌, max, Bool, true, false, cond, not, ◌||◌, eqb, ltb, Err, List, [], ◌∷◌, length, get_or, replicate, sym, refl, ◌∙◌, zero-add, arith, ltb-false, le-ltb, lt-ltb, ne_eqb, le-leb}
 use native.Mathlib.Nat.{zero-max}
 use lib.ListN.{get_or-replicate}
 use borrow.Author.Tests.{eqb-false, not-false}
@@ -13,8 +13,7 @@ use Rattle.lists.proofs.Count.{sum_ext, has_nothing}
 use Rattle.lists.proofs.Below.{has_turn, below_ext, below_nothing, below_first, below_more, get_d_each, every_within}
 use Rattle.lists.proofs.Pairs.{no_two_append, meet_element}
 use Rattle.lists.proofs.Tests.{eqb_swap}
-use Rattle.table.specs.declared.answer.RosterAnswer.{RosterAnswer}
-use Rattle.table.specs.declared.answer.RosterAnswer.TheVariants.{Accepted, Short, BadForm, Length, SpareBits, Share, Repeated, Guarantees}
+use Rattle.table.specs.declared.answer.RosterFault.TheVariants.{Short, BadForm, Length, SpareBits, Share, Repeated, Guarantees}
 use Rattle.table.specs.Table.{Table}
 use Rattle.table.specs.Total.{slots, total_for}
 use Rattle.table.specs.Word.{bits, is_used}
@@ -22,7 +21,7 @@ use Rattle.table.specs.Zeros.{no_call, no_customer, empty_table, past_call, past
 use Rattle.table.specs.Lists.{Terms, customer_at, terms_of, listed_at, roster, open_at, entries, held_at, customer_four, held_in, standalone_at, held}
 use Rattle.table.specs.Share.{is_at, S}
 use Rattle.table.specs.Rules.{bad_share, same_address, guarantees, acceptable, roster_holds, over_limit, place_clear, place_valid, call_clear, customer_free_clear, customer_clear, slot_free_clear, record_free_clear, slots_within_total, within_limits, share_within_total, names_and_ids, refreshes_past, holds, rules_hold}
-use Rattle.table.specs.Roster.{roster_number, form_in, customers_in, total_in, shares_in, terms_in, spare_in, records_in, bad_form, records_answer, roster_answer, customer_in, customers_from, fresh_table}
+use Rattle.table.specs.Roster.{RosterAnswer, Accepted, roster_number, form_in, customers_in, total_in, shares_in, terms_in, spare_in, records_in, bad_form, records_answer, roster_answer, customer_in, customers_from, fresh_table}
 use Rattle.table.proofs.Slots.{none_used}
 use Rattle.table.specs.Claims.{FreshHolds, EmptyHolds}
 
@@ -179,12 +178,12 @@ records_good : (s : List ℕ) (k left n : ℕ) → k + left ≡ n → has (bad_s
 unfolding records_answer
 records_good s k zero n e g a h =
     let q : n ≡ k = omega arith in
-    let o = passed (ltb (total_in s) (guarantees (records_in s k))) Guarantees Accepted refl h in
+    let o = passed (ltb (total_in s) (guarantees (records_in s k))) (Err Guarantees) Accepted refl h in
     rw q (record { shares = g; apart = a; sum = ltb-false (total_in s) (guarantees (records_in s k)) o.0 })
 records_good s k (suc left) n e g a h =
-    let o = passed (not (eqb (spare_in (form_in s) (shares_in s k)) 0)) SpareBits _ refl h in
-    let b = passed (bad_share (total_in s) (terms_in s k)) Share _ refl o.1 in
-    let d = passed (has (is_at (be32_at s (8 + 6 * k))) (records_in s k)) Repeated _ refl b.1 in
+    let o = passed (not (eqb (spare_in (form_in s) (shares_in s k)) 0)) (Err SpareBits) _ refl h in
+    let b = passed (bad_share (total_in s) (terms_in s k)) (Err Share) _ refl o.1 in
+    let d = passed (has (is_at (be32_at s (8 + 6 * k))) (records_in s k)) (Err Repeated) _ refl b.1 in
     records_good s (k + 1) left n (omega arith) (one_more_good s k g b.0) (one_more_apart s k a d.0) d.1
 
 good_acceptable : (total : ℕ) (r : List Terms) → Good total r → acceptable total r ≡ true
@@ -195,9 +194,9 @@ pub fresh_holds : FreshHolds
 unfolding roster_answer fresh_table roster_holds below
 fresh_holds s bytes h =
     let n = customers_in s in
-    let o = passed (ltb (length s) 8) Short _ refl h in
-    let f = passed (bad_form s) BadForm _ refl o.1 in
-    let l = passed (not (eqb (length s) (8 + 6 * n))) Length _ refl f.1 in
+    let o = passed (ltb (length s) 8) (Err Short) _ refl h in
+    let f = passed (bad_form s) (Err BadForm) _ refl o.1 in
+    let l = passed (not (eqb (length s) (8 + 6 * n))) (Err Length) _ refl f.1 in
     let c = good_count s f.0 in
     let g = records_good s 0 n n (zero-add n) refl refl l.1 in
     idle_holds (be32_at s 1) (be24_at s 5) (form_in s) s n c.1 g.sum
@@ -208,8 +207,8 @@ fresh_holds s bytes h =
 pub fresh_roster : (s : List ℕ) → roster_answer s ≡ Accepted → roster (fresh_table s) ≡ records_in s (customers_in s)
 unfolding roster_answer fresh_table
 fresh_roster s h =
-    let o = passed (ltb (length s) 8) Short _ refl h in
-    let f = passed (bad_form s) BadForm _ refl o.1 in
+    let o = passed (ltb (length s) 8) (Err Short) _ refl h in
+    let f = passed (bad_form s) (Err BadForm) _ refl o.1 in
     roster_is (be32_at s 1) (be24_at s 5) (form_in s) s (customers_in s) (good_count s f.0).1
 
 pub fresh_entries : (s : List ℕ) → entries (fresh_table s) ≡ []

@@ -1,10 +1,9 @@
 -- What is claimed of the table, by name; proved in proofs/ under the same names, written with hyphens.
 use Rattle.std.specs.Prelude.{◌≡◌, ℕ, ◌<◌, true, List, length, slice_index}
 use Rattle.numbers.specs.BigEndian.{Bytes}
-use Rattle.table.specs.declared.answer.RosterAnswer.TheVariants.{Accepted}
 use Rattle.table.specs.Zeros.{empty_table}
 use Rattle.table.specs.Rules.{rules_hold}
-use Rattle.table.specs.Roster.{roster_answer, fresh_table}
+use Rattle.table.specs.Roster.{Accepted, roster_answer, fresh_table}
 use Rattle.table.specs.Words.{word_count, table_of}
 
 -- words and table are one to one: a contract on the table settles every word. A node that hides something in words that

@@ -1,11 +1,11 @@
 -- The roster's packed form, its answers in their order, and the table that an accepted one returns (01, The roster; 02,
 -- A11: form 2).
-use Rattle.std.specs.Prelude.{ℕ, zero, suc, ◌+◌, ◌*◌, ◌/◌, ◌%◌, Bool, cond, not, ◌||◌, List, [], ◌∷◌, length, replicate, ◌==◌, nat_lt, slice_index}
+use Rattle.std.specs.Prelude.{ℕ, zero, suc, ◌+◌, ◌*◌, ◌/◌, ◌%◌, Bool, cond, not, ◌||◌, List, [], ◌∷◌, length, replicate, ◌==◌, nat_lt, slice_index, Result, Ok, Err}
 use Rattle.numbers.specs.BigEndian.{be16_at, be24_at, be32_at}
 use Rattle.lists.specs.Count.{has}
 use Rattle.lists.specs.Below.{below}
-use Rattle.table.specs.declared.answer.RosterAnswer.{RosterAnswer}
-use Rattle.table.specs.declared.answer.RosterAnswer.TheVariants.{Accepted, Short, BadForm, Length, SpareBits, Share, Repeated, Guarantees}
+use Rattle.table.specs.declared.answer.RosterFault.{RosterFault}
+use Rattle.table.specs.declared.answer.RosterFault.TheVariants.{Short, BadForm, Length, SpareBits, Share, Repeated, Guarantees}
 use Rattle.table.specs.Table.{Customer, Table}
 use Rattle.table.specs.Total.{slots, total_for}
 use Rattle.table.specs.Zeros.{no_place, no_call, no_customer, empty_table}
@@ -13,15 +13,25 @@ use Rattle.table.specs.Lists.{Terms}
 use Rattle.table.specs.Share.{is_at}
 use Rattle.table.specs.Rules.{bad_share, guarantees}
 
+-- accepted, or refused for a fault
+abbrev pub RosterAnswer : Type 0
+RosterAnswer = Result (Unit {0}) RosterFault
+
+abbrev pub Accepted : RosterAnswer
+Accepted = Ok tt
+
+abbrev pub fault_number : RosterFault → ℕ
+fault_number Short = 40
+fault_number BadForm = 41
+fault_number Length = 42
+fault_number SpareBits = 43
+fault_number Share = 44
+fault_number Repeated = 45
+fault_number Guarantees = 46
+
 abbrev pub roster_number : RosterAnswer → ℕ
-roster_number Accepted = 0
-roster_number Short = 40
-roster_number BadForm = 41
-roster_number Length = 42
-roster_number SpareBits = 43
-roster_number Share = 44
-roster_number Repeated = 45
-roster_number Guarantees = 46
+roster_number (Ok _) = 0
+roster_number (Err fault) = fault_number fault
 
 -- ---- the packed form: form number 4 bits, customer count 4, own address 32, own epoch 24
 
@@ -67,18 +77,18 @@ bad_form s = not (form_in s == 1 || form_in s == 2) || customers_in s == 0 || na
 -- records front to back from record k on, within each 43, 44, 45; after all of them 46. Form 2 has no spare bits, so that
 -- 43 is for form 1 alone.
 unfoldable pub records_answer : List ℕ → ℕ → ℕ → RosterAnswer
-records_answer s k zero = cond (nat_lt (total_in s) (guarantees (records_in s k))) Guarantees Accepted
+records_answer s k zero = cond (nat_lt (total_in s) (guarantees (records_in s k))) (Err Guarantees) Accepted
 records_answer s k (suc left) =
-    cond (not (spare_in (form_in s) (shares_in s k) == 0)) SpareBits
-    (cond (bad_share (total_in s) (terms_in s k)) Share
-    (cond (has (is_at (be32_at s (8 + 6 * k))) (records_in s k)) Repeated
+    cond (not (spare_in (form_in s) (shares_in s k) == 0)) (Err SpareBits)
+    (cond (bad_share (total_in s) (terms_in s k)) (Err Share)
+    (cond (has (is_at (be32_at s (8 + 6 * k))) (records_in s k)) (Err Repeated)
     (records_answer s (k + 1) left)))
 
 unfoldable pub roster_answer : List ℕ → RosterAnswer
 roster_answer s =
-    cond (nat_lt (length s) 8) Short
-    (cond (bad_form s) BadForm
-    (cond (not (length s == 8 + 6 * customers_in s)) Length
+    cond (nat_lt (length s) 8) (Err Short)
+    (cond (bad_form s) (Err BadForm)
+    (cond (not (length s == 8 + 6 * customers_in s)) (Err Length)
     (records_answer s 0 (customers_in s))))
 
 -- ---- the table: that roster as read, no calls or connections, next own identifier 1, all else zeros: the time, and no MESSAGE_ID kept

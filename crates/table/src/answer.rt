@@ -2,34 +2,28 @@
 ghost use Rattle.std.specs.Prelude.{◌≡◌};
 ghost use Rattle.table.specs.Roster.{roster_number};
 
+// What a roster is refused for, with the number that document 01 gives the answer.
 #[derive(Clone, Copy)]
-pub enum RosterAnswer {
-    Accepted,
+pub enum RosterFault {
     // Shorter than its fixed part.
-    Short,
+    Short = 40,
     // Form or customer count.
-    BadForm,
-    Length,
+    BadForm = 41,
+    Length = 42,
     // A record's spare bits, its guarantee and limit, or its address.
-    SpareBits,
-    Share,
-    Repeated,
+    SpareBits = 43,
+    Share = 44,
+    Repeated = 45,
     // The guarantees come to more than the form's total.
-    Guarantees,
+    Guarantees = 46,
 }
 
-// The number that document 01 gives the answer.
-pub fn roster_number(a: RosterAnswer) -> u8
-    ensures { result ≡ roster_number a }
+// The number of the answer: 0 where the roster is accepted.
+pub fn roster_number(answer: Result<(), RosterFault>) -> u8
+    ensures { result ≡ roster_number answer }
 {
-    match a {
-        RosterAnswer::Accepted => 0,
-        RosterAnswer::Short => 40,
-        RosterAnswer::BadForm => 41,
-        RosterAnswer::Length => 42,
-        RosterAnswer::SpareBits => 43,
-        RosterAnswer::Share => 44,
-        RosterAnswer::Repeated => 45,
-        RosterAnswer::Guarantees => 46,
+    match answer {
+        Ok(()) => 0,
+        Err(fault) => fault as u8,
     }
 }

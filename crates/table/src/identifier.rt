@@ -6,5 +6,5 @@ ghost use Rattle.table.specs.Identifier.{identifier_after};
 pub fn identifier_after(identifier: u32) -> u32
     ensures { result ≡ identifier_after identifier }
 {
-    std::num::wrapping_add_u32(identifier, 1)
+    identifier.wrapping_add(1)
 }

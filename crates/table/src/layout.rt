@@ -1,6 +1,9 @@
 // The layout of the table: an array of 32-bit words that the caller lends. A call takes 32 words, a place for a
 // connection 4. Nothing but table_words uses the places.
 
+// Kept: slots, roster records and places of a four are numbers, here and in the crates above, with a bound in each
+// contract. A type of slots would have to wrap each number of each loop, and the check finds the bound in one step.
+//
 // How many slots for calls the table has, whatever form its roster is of. How many calls all customers may have together
 // is `total_for` of the form.
 pub const SLOTS: usize = 200;

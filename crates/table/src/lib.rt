@@ -4,5 +4,6 @@
 pub mod answer;
 pub mod identifier;
 pub mod layout;
+pub mod share;
 pub mod total;
 pub mod word;

@@ -15,14 +15,14 @@ pub fn is_set(word: u64, i: usize) -> bool
 pub fn first_clear(word: u64) -> usize
     ensures { (result ≡ first_clear word) × (result ≤ 64) }
 {
-    u64::trailing_zeros(!word) as usize
+    word.trailing_ones() as usize
 }
 
 // The number of bits up to the last one that is set, by the word's leading zeros.
 pub fn set_below(word: u64) -> usize
     ensures { result ≡ last_below (is_set word) 64 }
 {
-    64 - (u64::leading_zeros(word) as usize)
+    64 - word.leading_zeros() as usize
 }
 
 // The word with a bit set, whatever it was.

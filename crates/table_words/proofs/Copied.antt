@@ -1,50 +1,57 @@
--- Words copied one after another.
+-- Words put in the midst of others.
 -- Assumes nothing.
-use Prim.Native.Nat.{ℕ, ◌+◌, ◌<◌}
-use native.Mathlib.Nat.{not-suc-le-zero}
+use Prim.Native.Nat.{ℕ, ◌+◌, ◌-◌, ◌≤◌, ◌<◌}
 use native.Mathlib.Omega.{arith}
 use mathlib.Core.Path.{◌≡◌, refl, ap, ◌∙◌}
-use mathlib.Core.List.{List}
 use mathlib.Core.Bool.{Bool, true, false}
-use lib.Dec.{eqb}
-use lib.ListN.{length, get_or, set, length-set}
-use lib.Seq.{get_or-set_same, get_or-set_other}
-use borrow.Author.Tests.{eqb-true, eqb-false}
+use lib.Dec.{ltb}
+use mathlib.Core.List.{List, ◌++◌}
+use lib.ListN.{length, get_or, take, drop, get_or-append}
+use lib.Seq.{get_or-append-add, get_or-take, get_or-drop, length-take-le}
+use borrow.Author.Tests.{ltb-true, ltb-false}
+use borrow.Rule.Slice.PartMut.{put_mid}
 use Rattle.table.specs.Total.{slots}
 use Rattle.table.specs.Stores.{with_slot}
-use Rattle.table.specs.Words.{call_at_word, call_start, occupied_of, table_of}
+use Rattle.table.specs.Words.{call_at_word, call_start, occupied_of, table_of, word_count}
 use Rattle.table.proofs.Cells.{call_same}
 use Rattle.table_words.proofs.Stored.{Elsewhere, slot_changed}
 
--- v is w, but for the first k of x from a place on
-pub record Copied (w x v : List ℕ) (b k : ℕ) : Type 0 where
-  pub long : length v ≡ length w
-  pub here : (j : ℕ) → j < k → get_or v (b + j) 0 ≡ get_or x j 0
-  pub other : Elsewhere w v b k
+-- x in the place of k words of w, from a on
+module _ (w x : List ℕ) (a k : ℕ) (fits : a + k ≤ length w) (long : length x ≡ k) where
+  past : (j : ℕ) → a ≤ j → get_or (put_mid a k w x) j 0 ≡ get_or (x ++ drop k (drop a w)) (j - a) 0
+  past j l =
+      let e : j ≡ length (take a w) + (j - a) = omega (arith, length-take-le a w (omega arith)) in
+      ap (λ (n : ℕ). get_or (put_mid a k w x) n 0) e ∙ get_or-append-add (take a w) (x ++ drop k (drop a w)) (j - a) 0
 
-pub none_copied : (w x : List ℕ) (b : ℕ) → Copied w x w b 0
-none_copied w x b = record { long = refl; here = λ j l. absurd (not-suc-le-zero l); other = λ j n. refl }
+  here : (j : ℕ) → j < k → get_or (put_mid a k w x) (a + j) 0 ≡ get_or x j 0
+  here j l =
+      let e : a + j - a ≡ j = omega arith in
+      past (a + j) (omega arith) ∙ ap (λ (n : ℕ). get_or (x ++ drop k (drop a w)) n 0) e ∙ get_or-append x (drop k (drop a w)) 0 j (omega arith)
 
--- one word more
-pub one_copied : (w x v : List ℕ) (b k y : ℕ) → b + k < length w → y ≡ get_or x k 0 → Copied w x v b k → Copied w x (set v (b + k) y) b (k + 1)
-one_copied w x v b k y fits e c = record {
-  long = length-set v (b + k) y ∙ c.long;
-  here = λ j l. at j l (eqb j k) refl;
-  other = λ j n. get_or-set_other v (b + k) j y 0 (λ q. n (omega arith) (omega arith)) ∙ c.other j (λ p q. n p (omega arith));
-}
-  where
-    at : (j : ℕ) → j < k + 1 → (s : Bool) → eqb j k ≡ s → get_or (set v (b + k) y) (b + j) 0 ≡ get_or x j 0
-    at j l true q = rw (eqb-true j k q) (get_or-set_same v (b + k) y 0 (omega (arith, c.long)) ∙ e)
-    at j l false q =
-        let n = eqb-false j k q in
-        get_or-set_other v (b + k) (b + j) y 0 (λ (r : b + j ≡ b + k). n (omega arith)) ∙ c.here j (less j k l n)
-      where
-        less : (j k : ℕ) → j < k + 1 → (j ≡ k → ⊥) → j < k
-        less j k l n = omega arith
+  other : Elsewhere w (put_mid a k w x) a k
+  other j n = by (ltb j a) refl
+    where
+      by : (b : Bool) → ltb j a ≡ b → get_or (put_mid a k w x) j 0 ≡ get_or w j 0
+      by true h =
+          let l = ltb-true j a h in
+          get_or-append (take a w) (x ++ drop k (drop a w)) 0 j (omega (arith, length-take-le a w (omega arith))) ∙ get_or-take a w j 0 l
+      by false h =
+          let l = ltb-false j a h in
+          let m : a + k ≤ j = omega arith in
+          let e : j - a ≡ length x + (j - (a + k)) = omega arith in
+          let f : a + (k + (j - (a + k))) ≡ j = omega arith in
+          past j l
+          ∙ ap (λ (n : ℕ). get_or (x ++ drop k (drop a w)) n 0) e
+          ∙ get_or-append-add x (drop k (drop a w)) (j - (a + k)) 0
+          ∙ get_or-drop k (drop a w) (j - (a + k)) 0
+          ∙ get_or-drop a w (k + (j - (a + k))) 0
+          ∙ ap (λ (n : ℕ). get_or w n 0) f
 
 -- a slot's words stored
-pub slot_stored : (w x v : List ℕ) (i : ℕ) → i < slots → Copied w x v (call_start i) 32
-    → table_of v ≡ with_slot (table_of w) (occupied_of w) i (call_at_word x 0)
-slot_stored w x v i l c =
-    slot_changed w v i l c.other
-    ∙ ap (λ d. with_slot (table_of w) (occupied_of w) i d) (call_same v x (call_start i) 0 (λ k m. c.here k m ∙ ap (λ (n : ℕ). get_or x n 0) (omega arith)))
+pub slot_stored : (w x : List ℕ) (i k : ℕ) → length w ≡ word_count → i < slots → k ≡ 32 → length x ≡ 32
+    → table_of (put_mid (call_start i) k w x) ≡ with_slot (table_of w) (occupied_of w) i (call_at_word x 0)
+slot_stored w x i k lw l e lx =
+    let v = put_mid (call_start i) 32 w x in
+    rw e
+    (slot_changed w v i l (other w x (call_start i) 32 (omega arith) lx)
+    ∙ ap (λ d. with_slot (table_of w) (occupied_of w) i d) (call_same v x (call_start i) 0 (λ k m. here w x (call_start i) 32 (omega arith) lx k m ∙ ap (λ (n : ℕ). get_or x n 0) (omega arith))))

@@ -10,8 +10,8 @@ use Rattle.table.specs.Total.{slots}
 use Rattle.table.specs.Lists.{call_at, customer_at, call_four, customer_four}
 use Rattle.table.specs.Words.{call_start, customer_start, table_of}
 use Rattle.table.proofs.Cells.{call_at_lem, customer_at_lem, endpoint_at_lem}
-use Rattle.table_words.specs.declared.fours.FourPlace.{FourPlace}
-use Rattle.table_words.specs.Fours.{four_at_word, Alike, FourInside}
+use Rattle.table_words.specs.declared.four_place.FourPlace.{FourPlace}
+use Rattle.table_words.specs.Fours.{four_at_word, Alike}
 
 module _ (w : List ℕ) (i : ℕ) (l : i < slots) where
   abbrev pub call_four_place : FourPlace
@@ -21,19 +21,18 @@ module _ (w : List ℕ) (i : ℕ) (l : i < slots) where
     endpoint = call_start i;
     each = false;
     places = call_start i + 16;
+    endpoint_inside = omega arith;
+    places_inside = omega arith;
   }
 
-  pub call_four_lem : Alike (four_at_word w call_four_place) (call_four (call_at (table_of w) i)) × FourInside call_four_place
+  pub call_four_lem : Alike (four_at_word w call_four_place) (call_four (call_at (table_of w) i))
   call_four_lem =
-      let e = call_at_lem w i l in (
-        record {
-          call = sym (ap (λ c. c.id) e);
-          sender = sym (ap (λ c. c.sender) e);
-          endpoint = λ j m. ap (λ (n : ℕ). get_or w n 0) (omega arith) ∙ sym (ap (λ c. c.endpoint) e);
-          places = sym (ap (λ c. c.places) e);
-        },
-        record { endpoint = omega arith; places = omega arith },
-      )
+      let e = call_at_lem w i l in record {
+        call = sym (ap (λ c. c.id) e);
+        sender = sym (ap (λ c. c.sender) e);
+        endpoint = λ j m. ap (λ (n : ℕ). get_or w n 0) (omega arith) ∙ sym (ap (λ c. c.endpoint) e);
+        places = sym (ap (λ c. c.places) e);
+      }
 
 module _ (w : List ℕ) (k : ℕ) (l : k < 8) where
   abbrev pub customer_four_place : FourPlace
@@ -43,16 +42,15 @@ module _ (w : List ℕ) (k : ℕ) (l : k < 8) where
     endpoint = customer_start k + 6;
     each = true;
     places = customer_start k + 10;
+    endpoint_inside = omega arith;
+    places_inside = omega arith;
   }
 
-  pub customer_four_lem : Alike (four_at_word w customer_four_place) (customer_four (customer_at (table_of w) k)) × FourInside customer_four_place
+  pub customer_four_lem : Alike (four_at_word w customer_four_place) (customer_four (customer_at (table_of w) k))
   customer_four_lem =
-      let e = customer_at_lem w k l in (
-        record {
-          call = refl;
-          sender = ap (λ (n : ℕ). get_or w n 0) (omega arith) ∙ sym (ap (λ c. c.address) e);
-          endpoint = λ j m. sym (ap (λ c. get_or c.endpoints j 0) e ∙ endpoint_at_lem w (customer_start k) j m);
-          places = sym (ap (λ c. c.places) e);
-        },
-        record { endpoint = omega arith; places = omega arith },
-      )
+      let e = customer_at_lem w k l in record {
+        call = refl;
+        sender = ap (λ (n : ℕ). get_or w n 0) (omega arith) ∙ sym (ap (λ c. c.address) e);
+        endpoint = λ j m. sym (ap (λ c. get_or c.endpoints j 0) e ∙ endpoint_at_lem w (customer_start k) j m);
+        places = sym (ap (λ c. c.places) e);
+      }

@@ -1,7 +1,7 @@
 -- A name's bytes in its words: one byte, one word, a name of bytes as words.
 -- Assumes nothing.
 use Prim.Native.Nat.{ℕ, zero, suc, ◌+◌, ◌*◌, ◌-◌, ◌/◌, ◌%◌, ◌^◌, ◌≤◌, ◌<◌}
-use native.Mathlib.Nat.{add-zero, zero-add, eq-or-lt_of_le, le_of_suc-le-suc, not-suc-le-zero, lt_irrefl}
+use native.Mathlib.Nat.{add-zero, zero-add, eq-or-lt_of_le, le_of_suc-le-suc, not-suc-le-zero}
 use native.Mathlib.Numerals.{add-one}
 use native.Mathlib.Omega.{arith}
 use mathlib.Core.Path.{◌≡◌, refl, sym, ap, ◌∙◌}
@@ -9,8 +9,8 @@ use mathlib.Core.Logic.{⊎_elim}
 use mathlib.Core.List.{List, [], ◌∷◌, ◌++◌}
 use mathlib.Core.Bool.{Bool, true, false}
 use lib.Dec.{ltb, eqb}
-use lib.ListN.{length, get_or, set, take, drop, replicate, length-append, length-set, length-take, length-drop, get_or-append, get_or-eq_default, drop_of_length-le}
-use lib.Seq.{drop-cons, get_or-append-add, get_or-take, get_or-drop, get_or-set_same, get_or-set_other, ext_get_or}
+use lib.ListN.{length, get_or, take, drop, replicate, length-append, length-take, length-drop, get_or-append, get_or-eq_default, drop_of_length-le}
+use lib.Seq.{drop-cons, get_or-append-add, get_or-take, get_or-drop, ext_get_or}
 use borrow.Author.Tests.{eqb-true, ltb-true, ltb-false}
 use Rattle.numbers.specs.Search.{zeros_at}
 use Rattle.numbers.specs.Buffer.{at_front}
@@ -86,9 +86,6 @@ name_within s at n k h = sym (get_or-take n (drop at s) k 0 h ∙ get_or-drop at
 pub name_fits : (s : List ℕ) (at n : ℕ) → n ≤ 32 → length (take n (drop at s)) ≤ 32
 name_fits s at n h = omega (arith, length-take n (drop at s))
 
-pub name_past : (s : List ℕ) (at n k : ℕ) → n ≤ k → ◌≡◌ {A = ℕ} 0 (get_or (take n (drop at s)) k 0)
-name_past s at n k h = sym (get_or-eq_default (take n (drop at s)) 0 {n = k} (omega (arith, length-take n (drop at s))))
-
 low : (a y : ℕ) → a < 256 → (a + y * 256) % 256 ≡ a
 low a y h = omega arith
 
@@ -109,25 +106,6 @@ word_bytes a b c d ha hb hc hd =
 pub record Spelled (x name : List ℕ) (n : ℕ) : Type 0 where
   pub long : length name ≡ 8
   pub word : (k : ℕ) → k < n → bytes_of (get_or name k 0) ≡ get_or x (4 * k) 0 ∷ get_or x (4 * k + 1) 0 ∷ get_or x (4 * k + 2) 0 ∷ get_or x (4 * k + 3) 0 ∷ []
-
-pub spelled_none : (x name : List ℕ) → length name ≡ 8 → Spelled x name 0
-spelled_none x name l = record { long = l; word = λ k h. absurd (not-suc-le-zero h) }
-
-pub spelled_turn : (x name : List ℕ) (n a b c d : ℕ) → n < 8 → Spelled x name n
-    → (a ≡ get_or x (4 * n) 0) × (a < 256) → (b ≡ get_or x (4 * n + 1) 0) × (b < 256) → (c ≡ get_or x (4 * n + 2) 0) × (c < 256) → (d ≡ get_or x (4 * n + 3) 0) × (d < 256)
-    → Spelled x (set name n (a + b * 256 + c * 65536 + d * 16777216)) (n + 1)
-spelled_turn x name n a b c d h s ea eb ec ed = record {
-  long = length-set name n v ∙ s.long;
-  word = λ k m.
-      ⊎_elim
-      (λ (e : k ≡ n).
-      rw (e, get_or-set_same name n v 0 (omega (arith, s.long)), word_bytes a b c d ea.1 eb.1 ec.1 ed.1, ea.0, eb.0, ec.0, ed.0))
-      (λ (l : k < n). rw (get_or-set_other name n k v 0 (λ e. lt_irrefl n (rw e at l))) (s.word k l))
-      (eq-or-lt_of_le (le_of_suc-le-suc (rw (add-one n) at m)));
-}
-  where
-    v : ℕ
-    v = a + b * 256 + c * 65536 + d * 16777216
 
 pub zero_get : (n j : ℕ) → get_or (replicate {A = ℕ} n 0) j 0 ≡ 0
 zero_get zero j = refl

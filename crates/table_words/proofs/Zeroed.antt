@@ -7,7 +7,7 @@ use mathlib.Core.List.{List, [], ◌∷◌}
 use mathlib.Core.Bool.{Bool, true, false, ◌&&◌}
 use lib.Dec.{eqb}
 use lib.Bits.{bit_or, and_le_l, and_le_r, or_add_and}
-use lib.ListN.{length, get_or, set, replicate}
+use lib.ListN.{get_or, set, replicate, length-replicate}
 use lib.Seq.{get_or-set_same, get_or-set_other}
 use borrow.Author.Tests.{eq-eqb, ne_eqb, eqb-true, eqb-false}
 use Rattle.numbers.specs.Search.{zeros_at}
@@ -174,35 +174,27 @@ rows_slots : {A : Type 0} (x : A) → below (λ k. x ∷ []) slots ≡ replicate
 unfolding below
 rows_slots x = refl
 
-pub table_zeroed : (w : List ℕ) → length w ≡ word_count → ((k : ℕ) → k < word_count → get_or w k 0 ≡ 0) → table_of (set w 2 1) ≡ empty_table
+pub table_zeroed : (n : ℕ) → n ≡ word_count → table_of (set (replicate n 0) 2 1) ≡ empty_table
 unfolding empty_table
-table_zeroed w lw h =
+table_zeroed n lw =
+    let w = replicate {A = ℕ} n 0 in
     let v = set w 2 1 in
-    let next : get_or v 2 0 ≡ 1 = get_or-set_same w 2 1 0 (omega arith) in
-    let other : (k : ℕ) → (k ≡ 2 → ⊥) → k < word_count → get_or v k 0 ≡ 0 = λ k n l. get_or-set_other w 2 k 1 0 n ∙ h k l in
-    let one : (k : ℕ) → k < 14 → (k ≡ 2 → ⊥) → get_or v k 0 ≡ 0 = λ k l n. other k n (omega arith) in
+    let next : get_or v 2 0 ≡ 1 = get_or-set_same w 2 1 0 (omega (arith, length-replicate {A = ℕ} n 0)) in
+    let other : (k : ℕ) → (k ≡ 2 → ⊥) → get_or v k 0 ≡ 0 = λ k m. get_or-set_other w 2 k 1 0 m ∙ zero_get n k in
     let os : occupied_of v ≡ replicate 4 0 =
-    below_ext _ _ 4 (λ k l. ap₂ (λ (x y : ℕ). (x + y * 4294967296) ∷ []) (one (6 + 2 * k) (omega arith) (λ e. omega arith)) (one (7 + 2 * k) (omega arith) (λ e. omega arith))) ∙ endpoints_none in
+    below_ext _ _ 4 (λ k l. ap₂ (λ (x y : ℕ). (x + y * 4294967296) ∷ []) (other (6 + 2 * k) (λ e. omega arith)) (other (7 + 2 * k) (λ e. omega arith))) ∙ endpoints_none in
     let cs : customers_of v ≡ replicate 8 no_customer =
-    below_ext _ _ 8 (λ k l. ap (λ x. x ∷ []) (customer_zeros v (customer_start k) (λ j m. other (customer_start k + j) (λ e. omega arith) (omega arith)))) ∙ rows_eight no_customer in
+    below_ext _ _ 8 (λ k l. ap (λ x. x ∷ []) (customer_zeros v (customer_start k) (λ j m. other (customer_start k + j) (λ e. omega arith)))) ∙ rows_eight no_customer in
     let ks : slots_of v ≡ replicate slots no_call =
-    below_ext _ _ slots (λ i l. ap (λ x. x ∷ []) (call_zeros v (call_start i) (λ j m. other (call_start i + j) (λ e. omega arith) (omega arith)))) ∙ rows_slots no_call in
+    below_ext _ _ slots (λ i l. ap (λ x. x ∷ []) (call_zeros v (call_start i) (λ j m. other (call_start i + j) (λ e. omega arith)))) ∙ rows_slots no_call in
     rw (
-      one 0 (omega arith) (λ e. omega arith),
-      one 1 (omega arith) (λ e. omega arith),
+      other 0 (λ e. omega arith),
+      other 1 (λ e. omega arith),
       next,
-      one 3 (omega arith) (λ e. omega arith),
-      one 4 (omega arith) (λ e. omega arith),
-      one 5 (omega arith) (λ e. omega arith),
+      other 3 (λ e. omega arith),
+      other 4 (λ e. omega arith),
+      other 5 (λ e. omega arith),
       os,
       cs,
       ks,
     )
-
--- one word more is zero
-pub zeroed_turn : (w : List ℕ) (n : ℕ) → n < length w → ((k : ℕ) → k < n → get_or w k 0 ≡ 0) → (k : ℕ) → k < n + 1 → get_or (set w n 0) k 0 ≡ 0
-zeroed_turn w n l h k m = go (eqb k n) refl
-  where
-    go : (b : Bool) → eqb k n ≡ b → get_or (set w n 0) k 0 ≡ 0
-    go true e = rw (eqb-true k n e) (get_or-set_same w n 0 0 l)
-    go false e = get_or-set_other w n k 0 0 (eqb-false k n e) ∙ h k (omega (arith, eqb-false k n e))

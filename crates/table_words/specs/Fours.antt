@@ -1,9 +1,9 @@
 -- Words of the contracts: the four that stands at a place of the table's words.
-use Rattle.std.specs.Prelude.{ℕ, ◌+◌, ◌≤◌, ◌<◌, ◌≡◌, List, cond, get_or}
+use Rattle.std.specs.Prelude.{ℕ, ◌+◌, ◌<◌, ◌≡◌, List, cond, get_or}
 use Rattle.table.specs.Table.{Place}
 use Rattle.table.specs.Lists.{Four}
-use Rattle.table.specs.Words.{places_at_word, word_count}
-use Rattle.table_words.specs.declared.fours.FourPlace.{FourPlace}
+use Rattle.table.specs.Words.{places_at_word}
+use Rattle.table_words.specs.declared.four_place.FourPlace.{FourPlace}
 use Rattle.table_words.specs.declared.fours.PlaceWords.{PlaceWords}
 
 abbrev pub place_of_words : PlaceWords → Place
@@ -24,7 +24,3 @@ pub record Alike (f g : Four) : Type 0 where
   pub sender : f.sender ≡ g.sender
   pub endpoint : (j : ℕ) → j < 4 → f.endpoint j ≡ g.endpoint j
   pub places : f.places ≡ g.places
-
-pub record FourInside (f : FourPlace) : Type 0 where
-  pub endpoint : f.endpoint + 4 ≤ word_count
-  pub places : f.places + 16 ≤ word_count

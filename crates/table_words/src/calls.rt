@@ -1,4 +1,5 @@
 // A slot's call. Whoever asks says why the slot is one of the table's.
+// Kept: numbers with a bound in each contract (table::layout says why).
 ghost use Rattle.std.specs.Prelude.{◌≡◌, ◌+◌, ◌-◌, ◌≤◌, ◌<◌};
 ghost use Rattle.lists.specs.Below.{every_below};
 ghost use Rattle.table.specs.Total.{slots};
@@ -8,14 +9,14 @@ ghost use Rattle.table.specs.Stores.{with_slot, with_refresh};
 ghost use Rattle.table.specs.Words.{name_at_word, call_at_word, table_of};
 ghost use Rattle.table_words.specs.Heads.{head_of, call_of};
 
-use crate::words::{sized, word, zero_words};
+use crate::words::{word, zero_words};
 use table::layout::{
     CALL_EPOCH, CALL_ID, CALL_WORDS, FIRST_CALL, IDENTIFIER, MADE, NAME, NAME_WORDS, REFRESHED,
     SENDER, SIZE, SLOTS, Words,
 };
 
 // A table's word for a Call ID: any number, until the rules are known to hold.
-#[derive(Clone, Copy)]
+#[derive(Clone, Copy, PartialEq, Eq)]
 pub struct CallWord(pub u32);
 
 // A call's first eight words. Callers use a few of them, and the compiler loads no others.
@@ -50,21 +51,21 @@ pub fn call_head(t: &Words, i: usize) -> CallHead
 
 // The slot's name, all 32 bytes of it, is that of eight words. No early exit: then the compiler compares several words at
 // a time.
+#[tactic(auto, using(lists::proofs::Below::every_none, lists::proofs::Below::every_turn))]
 pub fn is_named(t: &Words, i: usize, name: &[u32; 8]) -> bool
     requires { i < slots }
     ensures { result ≡ same_bytes (name_at_word name.now 0) (call_at (table_of t.now) i).name }
 {
     let b = FIRST_CALL + CALL_WORDS * i + NAME;
     let mut same = true;
-    let mut k: usize = 0;
-    while k < 8 {
-        same = same & (name[k] == word(t, b, k));
-        k += 1;
+    for k in 0..8 {
+        same &= name[k] == word(t, b, k);
     }
     same
 }
 
 // Two slots' names, all 32 bytes of them, are the same.
+#[tactic(auto, using(lists::proofs::Below::every_none, lists::proofs::Below::every_turn))]
 pub fn same_names(t: &Words, j: usize, i: usize) -> bool
     requires { (j < slots) × (i < slots) }
     ensures { result ≡ same_bytes (call_at (table_of t.now) j).name (call_at (table_of t.now) i).name }
@@ -72,10 +73,8 @@ pub fn same_names(t: &Words, j: usize, i: usize) -> bool
     let b = FIRST_CALL + CALL_WORDS * j + NAME;
     let c = FIRST_CALL + CALL_WORDS * i + NAME;
     let mut same = true;
-    let mut k: usize = 0;
-    while k < NAME_WORDS {
-        same = same & (word(t, b, k) == word(t, c, k));
-        k += 1;
+    for k in 0..NAME_WORDS {
+        same &= word(t, b, k) == word(t, c, k);
     }
     same
 }
@@ -142,13 +141,8 @@ pub fn put_slot(t: &mut Words, i: usize, x: &[u32; 32])
     requires { i < slots }
     ensures { table_of t.new ≡ with_slot (table_of t.old) (table_of t.old).occupied i (call_at_word x.now 0) }
 {
-    sized(t);
     let b = FIRST_CALL + CALL_WORDS * i;
-    let mut k: usize = 0;
-    while k < 32 {
-        t[b + k] = x[k];
-        k += 1;
-    }
+    t[b..b + CALL_WORDS].copy_from_slice(x);
 }
 
 // A slot's last refresh stored.
@@ -156,7 +150,6 @@ pub fn put_refreshed(t: &mut Words, i: usize, time: u32)
     requires { i < slots }
     ensures { table_of t.new ≡ with_slot (table_of t.old) (table_of t.old).occupied i (with_refresh (call_at (table_of t.old) i) time) }
 {
-    sized(t);
     let b = FIRST_CALL + CALL_WORDS * i;
     t[b + REFRESHED] = time;
 }

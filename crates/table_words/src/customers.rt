@@ -1,4 +1,5 @@
 // A customer's terms, and its last MESSAGE_ID. Whoever asks says why the record is one of the eight.
+// Kept: numbers with a bound in each contract (table::layout says why).
 ghost use Rattle.std.specs.Prelude.{◌≡◌, ◌<◌};
 ghost use Rattle.table.specs.Lists.{customer_at};
 ghost use Rattle.table.specs.Rules.{customer_clear};
@@ -6,7 +7,7 @@ ghost use Rattle.table.specs.Stores.{with_customer, with_terms, with_last};
 ghost use Rattle.table.specs.Words.{table_of};
 ghost use Rattle.table_words.specs.Heads.{customer_head_of, last_words_of};
 
-use crate::words::{sized, to_index, word, zero_words};
+use crate::words::{word, zero_words};
 use objects::fields::MessageId;
 use table::layout::{
     CUSTOMER_WORDS, FIRST_CUSTOMER, GUARANTEE, KEPT, LAST_EPOCH, LAST_IDENTIFIER, LIMIT, Words,
@@ -27,8 +28,8 @@ pub fn customer_head(t: &Words, k: usize) -> CustomerHead
     let b = FIRST_CUSTOMER + CUSTOMER_WORDS * k;
     CustomerHead {
         address: t[b],
-        guarantee: to_index(word(t, b, GUARANTEE)),
-        limit: to_index(word(t, b, LIMIT)),
+        guarantee: word(t, b, GUARANTEE) as usize,
+        limit: word(t, b, LIMIT) as usize,
     }
 }
 
@@ -36,7 +37,6 @@ pub fn put_terms(t: &mut Words, k: usize, address: u32, guarantee: u32, limit: u
     requires { k < 8 }
     ensures { table_of t.new ≡ with_customer (table_of t.old) k (with_terms (customer_at (table_of t.old) k) address guarantee limit) }
 {
-    sized(t);
     let b = FIRST_CUSTOMER + CUSTOMER_WORDS * k;
     t[b] = address;
     t[b + GUARANTEE] = guarantee;
@@ -45,6 +45,7 @@ pub fn put_terms(t: &mut Words, k: usize, address: u32, guarantee: u32, limit: u
 
 // The last MESSAGE_ID that was accepted in a customer's Notify, and whether there is one (02, A8): any words, until the
 // rules are known to hold.
+// Kept: a mark and its values, and no Option: these are the words that the C interface lends, and a mark may be any number.
 #[derive(Clone, Copy)]
 pub struct LastWords {
     pub kept: u32,
@@ -68,7 +69,6 @@ pub fn put_last(t: &mut Words, k: usize, id: MessageId)
     requires { k < 8 }
     ensures { table_of t.new ≡ with_customer (table_of t.old) k (with_last (customer_at (table_of t.old) k) id) }
 {
-    sized(t);
     let b = FIRST_CUSTOMER + CUSTOMER_WORDS * k;
     t[b + KEPT] = 1;
     t[b + LAST_EPOCH] = id.epoch;

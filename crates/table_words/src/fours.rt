@@ -1,15 +1,16 @@
 // The fours of connections: a call's, and a customer's of Call ID 0, by where they stand.
+// Kept: numbers with a bound in each contract (table::layout says why).
 ghost use Rattle.std.specs.Prelude.{◌≡◌, ◌<◌};
 ghost use Rattle.table.specs.Total.{slots};
 ghost use Rattle.table.specs.Zeros.{no_place};
 ghost use Rattle.table.specs.Lists.{call_at, customer_at, call_four, customer_four, place_at};
 ghost use Rattle.table.specs.Stores.{with_slot, with_customer, with_place, with_standalone_place};
 ghost use Rattle.table.specs.Words.{table_of};
-ghost use Rattle.table_words.specs.Fours.{four_at_word, place_of_words, Alike, FourInside};
+ghost use Rattle.table_words.specs.Fours.{four_at_word, place_of_words, Alike};
 
 use crate::calls::CallWord;
-use crate::words::{sized, word};
-use lists::number_if;
+pub use crate::four_place::FourPlace;
+use crate::words::word;
 use objects::fields::{LspId, TunnelId};
 use table::layout::{
     CALL_FOUR, CALL_ID, CALL_WORDS, CUSTOMER_FOUR, CUSTOMER_WORDS, ENDPOINTS, EXTENDED, FIRST_CALL,
@@ -17,12 +18,13 @@ use table::layout::{
 };
 
 // A table's words for a Tunnel ID and an LSP ID: any numbers, until the rules are known to hold.
-#[derive(Clone, Copy)]
+#[derive(Clone, Copy, PartialEq, Eq)]
 pub struct TunnelWord(pub u32);
 
-#[derive(Clone, Copy)]
+#[derive(Clone, Copy, PartialEq, Eq)]
 pub struct LspWord(pub u32);
 
+// Kept: a mark and its values, and no Option: these are the words that the C interface lends, and a mark may be any number.
 #[derive(Clone, Copy)]
 pub struct PlaceWords {
     pub taken: u32,
@@ -31,20 +33,9 @@ pub struct PlaceWords {
     pub lsp: LspWord,
 }
 
-// Where a four stands: the Call ID and the sender of all its connections, the place of the end point, which is one for
-// all or one for each, and of the first of the four.
-#[derive(Clone, Copy)]
-pub struct FourPlace {
-    pub call: CallWord,
-    pub sender: u32,
-    pub endpoint: usize,
-    pub each: bool,
-    pub places: usize,
-}
-
 pub fn call_four(t: &Words, i: usize) -> FourPlace
     requires { i < slots }
-    ensures { Alike (four_at_word t.now result) (call_four (call_at (table_of t.now) i)) × FourInside result }
+    ensures { Alike (four_at_word t.now result) (call_four (call_at (table_of t.now) i)) }
 {
     let b = FIRST_CALL + CALL_WORDS * i;
     FourPlace {
@@ -58,7 +49,7 @@ pub fn call_four(t: &Words, i: usize) -> FourPlace
 
 pub fn customer_four(t: &Words, k: usize) -> FourPlace
     requires { k < 8 }
-    ensures { Alike (four_at_word t.now result) (customer_four (customer_at (table_of t.now) k)) × FourInside result }
+    ensures { Alike (four_at_word t.now result) (customer_four (customer_at (table_of t.now) k)) }
 {
     let b = FIRST_CUSTOMER + CUSTOMER_WORDS * k;
     FourPlace {
@@ -70,9 +61,8 @@ pub fn customer_four(t: &Words, k: usize) -> FourPlace
     }
 }
 
-// Here and below, the four lies within the table: `call_four` and `customer_four` promise that.
 pub fn place_words(t: &Words, f: FourPlace, j: usize) -> PlaceWords
-    requires { FourInside f × (j < 4) }
+    requires { j < 4 }
     ensures { place_of_words result ≡ place_at (four_at_word t.now f) j }
 {
     let b = f.places + PLACE_WORDS * j;
@@ -85,10 +75,10 @@ pub fn place_words(t: &Words, f: FourPlace, j: usize) -> PlaceWords
 }
 
 pub fn endpoint_at(t: &Words, f: FourPlace, j: usize) -> u32
-    requires { FourInside f × (j < 4) }
+    requires { j < 4 }
     ensures { result ≡ (four_at_word t.now f).endpoint j }
 {
-    word(t, f.endpoint, number_if(f.each, j))
+    word(t, f.endpoint, if f.each { j } else { 0 })
 }
 
 // A place with a connection in it.
@@ -119,7 +109,6 @@ pub fn put_call_place(t: &mut Words, i: usize, j: usize, p: PlaceWords)
     requires { (i < slots) × (j < 4) }
     ensures { table_of t.new ≡ with_slot (table_of t.old) (table_of t.old).occupied i (with_place (call_at (table_of t.old) i) j (place_of_words p)) }
 {
-    sized(t);
     let b = FIRST_CALL + CALL_WORDS * i + CALL_FOUR + PLACE_WORDS * j;
     t[b] = p.taken;
     t[b + TUNNEL] = p.tunnel.0;
@@ -132,7 +121,6 @@ pub fn put_customer_place(t: &mut Words, k: usize, j: usize, endpoint: u32, p: P
     requires { (k < 8) × (j < 4) }
     ensures { table_of t.new ≡ with_customer (table_of t.old) k (with_standalone_place (customer_at (table_of t.old) k) j endpoint (place_of_words p)) }
 {
-    sized(t);
     let e = FIRST_CUSTOMER + CUSTOMER_WORDS * k + ENDPOINTS + j;
     t[e] = endpoint;
     let b = FIRST_CUSTOMER + CUSTOMER_WORDS * k + CUSTOMER_FOUR + PLACE_WORDS * j;

@@ -4,7 +4,7 @@ ghost use Rattle.std.specs.Prelude.{◌≡◌, ◌<◌, get_or, set};
 ghost use Rattle.table.specs.Stores.{with_occupied, with_next, with_time, with_roster};
 ghost use Rattle.table.specs.Words.{table_of};
 
-use crate::words::{sized, to_index, wide, word};
+use crate::words::word;
 use table::layout::{ADDRESS, EPOCH, FORM, LISTED, NEXT, OCCUPIED, TIME, Words};
 
 pub fn address(t: &Words) -> u32
@@ -37,7 +37,7 @@ pub fn time(t: &Words) -> u32
 pub fn listed(t: &Words) -> usize
     ensures { result ≡ (table_of t.now).listed }
 {
-    to_index(t[LISTED])
+    t[LISTED] as usize
 }
 
 // The roster's form: any number, until the rules are known to hold.
@@ -53,8 +53,8 @@ pub fn used_word(t: &Words, k: usize) -> u64
     requires { k < 4 }
     ensures { result ≡ get_or (table_of t.now).occupied k 0 }
 {
-    let low = wide(word(t, OCCUPIED, 2 * k));
-    let high = wide(word(t, OCCUPIED + 1, 2 * k));
+    let low = u64::from(word(t, OCCUPIED, 2 * k));
+    let high = u64::from(word(t, OCCUPIED + 1, 2 * k));
     low + high * 4294967296
 }
 
@@ -62,7 +62,6 @@ pub fn set_used_word(t: &mut Words, k: usize, word: u64)
     requires { k < 4 }
     ensures { table_of t.new ≡ with_occupied (table_of t.old) (set (table_of t.old).occupied k word) }
 {
-    sized(t);
     let b = OCCUPIED + 2 * k;
     t[b] = (word % 4294967296) as u32;
     t[b + 1] = (word / 4294967296) as u32;
@@ -71,14 +70,12 @@ pub fn set_used_word(t: &mut Words, k: usize, word: u64)
 pub fn set_next(t: &mut Words, next: u32)
     ensures { table_of t.new ≡ with_next (table_of t.old) next }
 {
-    sized(t);
     t[NEXT] = next;
 }
 
 pub fn set_time(t: &mut Words, time: u32)
     ensures { table_of t.new ≡ with_time (table_of t.old) time }
 {
-    sized(t);
     t[TIME] = time;
 }
 
@@ -86,7 +83,6 @@ pub fn set_time(t: &mut Words, time: u32)
 pub fn set_roster(t: &mut Words, address: u32, epoch: u32, listed: u32, form: u32)
     ensures { table_of t.new ≡ with_roster (table_of t.old) address epoch listed form }
 {
-    sized(t);
     t[ADDRESS] = address;
     t[EPOCH] = epoch;
     t[LISTED] = listed;

@@ -1,5 +1,6 @@
-// The comparisons of IDs and of the table's words for them, kind by kind, so that none is taken for another. No other
-// function compares what is in them, but for the columns of `rule_connections`, each of which has words of one kind.
+// The tests of IDs and of the table's words for them, kind by kind, so that none is taken for another. Words of one kind
+// are compared by `==`. No other function reads what is in them, but for the columns of `rule_connections`, each of which
+// has words of one kind.
 ghost use Rattle.std.specs.Prelude.{◌≡◌, not, ◌&&◌, eqb, ltb};
 
 use crate::calls::CallWord;
@@ -7,6 +8,7 @@ use crate::fours::{LspWord, TunnelWord};
 use objects::fields::{CallId, LspId, TunnelId};
 
 // An ID of a message against a word of the table.
+// Kept: one test for each kind, here and below. A generic one needs a trait with an impl for each kind, which is longer.
 pub fn is_call(id: CallId, word: CallWord) -> bool
     ensures { result ≡ eqb id.0 word.0 }
 {
@@ -25,13 +27,6 @@ pub fn is_lsp(id: LspId, word: LspWord) -> bool
     id.0 as u32 == word.0
 }
 
-// Two words of the table.
-pub fn same_call(a: CallWord, b: CallWord) -> bool
-    ensures { result ≡ eqb a.0 b.0 }
-{
-    a.0 == b.0
-}
-
 // Call ID 0 means no call.
 pub fn is_no_call(id: CallId) -> bool
     ensures { result ≡ eqb id.0 0 }
@@ -46,7 +41,7 @@ pub fn is_call_id(word: CallWord) -> bool
     (word.0 != 0) & (word.0 < 0x10000)
 }
 
-// Words of sixteen bits, and words of a free place.
+// Words of sixteen bits.
 pub fn is_tunnel_id(word: TunnelWord) -> bool
     ensures { result ≡ ltb word.0 0x10000 }
 {
@@ -57,18 +52,6 @@ pub fn is_lsp_id(word: LspWord) -> bool
     ensures { result ≡ ltb word.0 0x10000 }
 {
     word.0 < 0x10000
-}
-
-pub fn is_zero_tunnel(word: TunnelWord) -> bool
-    ensures { result ≡ eqb word.0 0 }
-{
-    word.0 == 0
-}
-
-pub fn is_zero_lsp(word: LspWord) -> bool
-    ensures { result ≡ eqb word.0 0 }
-{
-    word.0 == 0
 }
 
 // The length of a name.

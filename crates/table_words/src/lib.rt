@@ -4,6 +4,7 @@
 
 pub mod calls;
 pub mod customers;
+mod four_place;
 pub mod fours;
 pub mod head;
 pub mod ids;

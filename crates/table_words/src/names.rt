@@ -1,4 +1,5 @@
 // The bytes of a call's name, four to a word, the low one first.
+// Kept: numbers with a bound in each contract (table::layout says why).
 ghost use Rattle.std.specs.Prelude.{◌≡◌, ◌+◌, ◌≤◌, ◌<◌, min, length, get_or, take, drop, replicate};
 ghost use Rattle.numbers.specs.Buffer.{at_front};
 ghost use Rattle.table.specs.Total.{slots};
@@ -13,14 +14,15 @@ use table::layout::{CALL_WORDS, FIRST_CALL, NAME, Words};
 pub fn name_size(size: u32) -> usize
     ensures { result ≡ min size 32 }
 {
-    if size < 32 { size as usize } else { 32 }
+    (size as usize).min(32)
 }
 
-fn byte_of(word: u32, j: usize) -> u8
+// A byte of a word.
+pub fn byte_of(word: u32, j: usize) -> u8
     requires { j < 4 }
     ensures { result ≡ get_or (bytes_of word) j 0 }
 {
-    ((word >> (8 * j)) % 256) as u8
+    word.to_le_bytes()[j]
 }
 
 pub fn name_byte(t: &Words, i: usize, k: usize) -> u8
@@ -38,37 +40,28 @@ pub fn name_word(t: &Words, i: usize, k: usize) -> u32
     word(t, FIRST_CALL + CALL_WORDS * i + NAME, k)
 }
 
-fn byte_word(x: u8) -> u32
-    ensures { (result ≡ x) × (result < 256) }
-{
-    x as u32
-}
-
 // The byte of a name of n bytes at s[at]: zeros behind it.
-fn padded_byte(s: &[u8], at: usize, n: usize, k: usize) -> u32
+fn padded_byte(s: &[u8], at: usize, n: usize, k: usize) -> u8
     requires { at + n ≤ length s.now }
-    ensures { (result ≡ get_or (take n (drop at s.now)) k 0) × (result < 256) }
+    ensures { result ≡ get_or (take n (drop at s.now)) k 0 }
 {
-    if k < n {
-        return byte_word(s[at + k]);
-    }
-    0
+    if k < n { s[at + k] } else { 0 }
 }
 
 // A name of bytes as the table's eight words, zeros behind it.
+// Kept: a place and a length, and no slice: whoever asks has the part of a message that the reading found, and its contract
+// says where the part lies.
 pub fn name_words(s: &[u8], at: usize, n: usize) -> [u32; 8]
     requires { (n ≤ 32) × (at + n ≤ length s.now) }
     ensures { name_at_word result 0 ≡ at_front (take n (drop at s.now)) (replicate 32 0) }
 {
     let mut name = [0u32; 8];
-    let mut k: usize = 0;
-    while k < 8 {
+    for k in 0..8 {
         let a = padded_byte(s, at, n, 4 * k);
         let b = padded_byte(s, at, n, 4 * k + 1);
         let c = padded_byte(s, at, n, 4 * k + 2);
         let d = padded_byte(s, at, n, 4 * k + 3);
-        name[k] = a + b * 256 + c * 65536 + d * 16777216;
-        k += 1;
+        name[k] = u32::from_le_bytes([a, b, c, d]);
     }
     name
 }

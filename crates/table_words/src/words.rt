@@ -1,34 +1,9 @@
 // One word, and a run of words.
-ghost use Rattle.std.specs.Prelude.{◌≡◌, ◌+◌, ◌≤◌, ◌<◌, length, get_or, eqb};
+ghost use Rattle.std.specs.Prelude.{◌≡◌, ◌+◌, ◌≤◌, ◌<◌, get_or, eqb};
 ghost use Rattle.lists.specs.Below.{every_below};
 ghost use Rattle.table.specs.Words.{word_count};
 
 use table::layout::Words;
-
-// A reference to an array says nothing of its length, and a copy does. The copy is never read, and the compiler leaves it
-// out.
-fn copied(x: Words)
-    ensures { length x ≡ word_count }
-{}
-
-pub(crate) fn sized(t: &Words)
-    ensures { length t.now ≡ word_count }
-{
-    copied(*t)
-}
-
-// A word as a number of 64 bits.
-pub(crate) fn wide(x: u32) -> u64
-    ensures { (result ≡ x) × (result < 4294967296) }
-{
-    x as u64
-}
-
-pub(crate) fn to_index(x: u32) -> usize
-    ensures { (result ≡ x) × (result < 4294967296) }
-{
-    x as usize
-}
 
 // The word so far behind a place. A read through it leaves its caller one fact to show, a read of the array three.
 pub(crate) fn word(t: &Words, b: usize, k: usize) -> u32
@@ -44,10 +19,8 @@ pub(crate) fn zero_words(t: &Words, b: usize, n: usize) -> bool
     ensures { result ≡ every_below (λ k. eqb (get_or t.now (b + k) 0) 0) n }
 {
     let mut joined: u32 = 0;
-    let mut k: usize = 0;
-    while k < n {
-        joined = joined | word(t, b, k);
-        k += 1;
+    for k in 0..n {
+        joined |= word(t, b, k);
     }
     joined == 0
 }

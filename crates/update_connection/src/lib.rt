@@ -9,57 +9,33 @@ ghost use Rattle.table.specs.Lists.{customer_at, roster, call_at, call_four, cus
 ghost use Rattle.table.specs.Share.{is_listed};
 ghost use Rattle.table.specs.Rules.{is_lsp};
 ghost use Rattle.table.specs.Words.{table_of};
-ghost use Rattle.table_words.specs.Fours.{four_at_word, place_of_words, FourInside};
+ghost use Rattle.table_words.specs.Fours.{four_at_word, place_of_words};
 ghost use Rattle.spec_changes.specs.Connections.{place_for, added_under, added_standalone, place_with, removed_under, removed_standalone, customer_of};
 ghost use Rattle.spec_calls.specs.PathRules.{lsp_of};
 
+use find_call::share::listing_of;
 use find_connection::four::holds_at;
 use fours::free_place;
-use lists::select;
 use messages::message::Lsp;
-use table::layout::{CUSTOMERS, PLACES, Words};
-use table_words::customers::customer_head;
+use table::layout::{PLACES, Words};
 use table_words::fours::{
     FourPlace, PlaceWords, call_four, customer_four, no_place, put_call_place, put_customer_place,
     taken_place,
 };
-use table_words::head::listed;
 
 // The roster's record of an address that is listed.
 pub fn customer_of(t: &Words, address: u32) -> usize
     requires { is_listed (roster (table_of t.now)) address ≡ true }
     ensures { (result ≡ customer_of (table_of t.now) address) × (result < 8) }
 {
-    let n = listed(t);
-    let mut known = false;
-    let mut at: usize = 0;
-    let mut k: usize = 0;
-    while k < CUSTOMERS {
-        let m = customer_head(t, k);
-        let here = (k < n) & (address == m.address);
-        at = select(here & !known, k, at);
-        known = known | here;
-        k += 1;
-    }
-    at
+    listing_of(t, address).unwrap().place
 }
 
-// The place of a four that holds a connection, 0 where none does. The four lies within the table: who found it promises
-// that.
+// The place of a four that holds a connection, 0 where none does.
 fn place_with(t: &Words, f: FourPlace, x: Lsp) -> usize
-    requires { FourInside f }
     ensures { (result ≡ place_with (four_at_word t.now f) (lsp_of x)) × (result < 4) }
 {
-    let mut held = false;
-    let mut at: usize = 0;
-    let mut j: usize = 0;
-    while j < PLACES {
-        let here = holds_at(t, f, j, x);
-        at = select(here & !held, j, at);
-        held = held | here;
-        j += 1;
-    }
-    at
+    (0..PLACES).find(|j| holds_at(t, f, *j, x)).unwrap_or(0)
 }
 
 fn place_for(x: Lsp) -> PlaceWords
@@ -67,6 +43,9 @@ fn place_for(x: Lsp) -> PlaceWords
 {
     taken_place(x.tunnel, x.extended, x.lsp)
 }
+
+// Kept: two functions to add and two to remove, since a call's place and a customer's are written by different stores: the
+// customer's has an end point of its own (`added_standalone`). What they share are `free_place`, `place_with` and `place_for`.
 
 // Into the lowest free place of a slot's call. A slot is one of the table's. Its four is not full: place 0 of a full one
 // would be overwritten.

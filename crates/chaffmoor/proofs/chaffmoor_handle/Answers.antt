@@ -6,4 +6,4 @@ use Rattle.chaffmoor.proofs.chaffmoor_handle.Goals as goal
 pub returns : goal.returns
 returns c =
     let e = c.handle-r.ensures in
-    (c.number.ensures ∙ ap answer_number e.answer, e.length, e.closed, e.table, e.reply, e.closings)
+    (c.from.ensures ∙ ap answer_number e.answer, e.length, e.closed, e.table, e.reply, e.closings)

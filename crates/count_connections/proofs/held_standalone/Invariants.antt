@@ -1,5 +1,5 @@
 -- `held_standalone` meets its contract: after `k` turns it has counted the first `k` customers' places.
-use Prim.Native.Nat.{◌*◌, ◌≤◌, ◌-◌}
+use Prim.Native.Nat.{◌*◌, ◌≤◌}
 use mathlib.Core.Path.{◌≡◌}
 use mathlib.Core.Bool.{true}
 use Rattle.lists.specs.Below.{below}
@@ -9,7 +9,4 @@ use Rattle.table.specs.Words.{table_of}
 use Rattle.count_connections.proofs.held_standalone.Given as goal
 
 abbrev pub invariant-loop-k : goal.invariant-loop-k
-invariant-loop-k l = (l.k ≤ 8) × (l.n ≤ 4 * l.k) × (l.n ≡ count_if (λ x. true) (below (standalone_at (table_of l.t)) l.k))
-
-abbrev pub decreases-loop-k : goal.decreases-loop-k
-decreases-loop-k l = 8 - l.k
+invariant-loop-k l = (l.n ≤ 4 * l.k) × (l.n ≡ count_if (λ x. true) (below (standalone_at (table_of l.t)) l.k))

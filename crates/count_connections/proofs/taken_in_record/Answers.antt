@@ -12,7 +12,7 @@ pub returns-then-k-listed : goal.returns-then-k-listed
 returns-then-k-listed c =
     let e = c.taken_in.ensures in (
       rw (lt-ltb _ _ c.if-k-listed.true)
-          (e.0 ∙ ap (λ l. count_if (λ (x : Held). true) l) (alike_held _ _ c.customer_four.ensures.0)),
+          (e.0 ∙ ap (λ l. count_if (λ (x : Held). true) l) (alike_held _ _ c.customer_four.ensures)),
       e.1,
     )
 

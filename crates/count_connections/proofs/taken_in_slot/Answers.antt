@@ -19,7 +19,7 @@ pub returns-then-is_used : goal.returns-then-is_used
 returns-then-is_used c =
     let e = c.taken_in.ensures in
     let used = sym c.is_used.ensures ∙ c.if-is_used.true in
-    (used_has _ _ _ used (e.0 ∙ ap (λ l. count_if (λ (x : Held). true) l) (alike_held _ _ c.call_four.ensures.0)), e.1)
+    (used_has _ _ _ used (e.0 ∙ ap (λ l. count_if (λ (x : Held). true) l) (alike_held _ _ c.call_four.ensures)), e.1)
 
 pub returns : goal.returns
 returns c = (free_has _ _ _ (sym c.is_used.ensures ∙ c.if-is_used.false) refl, omega arith)

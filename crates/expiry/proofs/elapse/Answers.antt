@@ -12,24 +12,22 @@ returns-then-period-eq0 c =
     none_elapsed (table_of a.t.now) a.at a.period _ _ c.raise_time.ensures (eq-eqb a.period 0 c.if-period-eq0.true)
 
 pub loop-i-init : goal.loop-i-init
-loop-i-init c = (omega arith, none_turned _ _ _)
+loop-i-init c = none_turned _ _ _
 
 pub expire_slot-k-requires : goal.expire_slot-k-requires
 expire_slot-k-requires c =
     let some : c.args.period ≡ 0 → ⊥ = c.if-period-eq0.false in
-    (omega (arith, c.used_below-n.ensures.0), omega arith, c.loop-i.invariant.1.within)
+    (omega (arith, c.used_below-i-end.ensures.0), omega arith, c.loop-i.invariant.within)
 
 pub loop-i-preserved : goal.loop-i-preserved
 loop-i-preserved c =
-    let a = c.args in (
-      omega arith,
-      slot_turn (table_of c.raise_time.new.t) a.period c.loop-i.i (words_sized c.raise_time.new.t) (omega (arith, c.used_below-n.ensures.0)) _ _ _ _ _ _ _ c.loop-i.invariant.1 c.sized.ensures
-          (rw (← c.time-node_time.ensures) c.expire_slot-k.ensures),
-    )
+    let a = c.args in
+    slot_turn (table_of c.raise_time.new.t) a.period c.loop-i.i (words_sized c.raise_time.new.t) (omega (arith, c.used_below-i-end.ensures.0)) _ _ _ _ _ _ _ c.loop-i.invariant (omega arith)
+    (rw (← c.time-node_time.ensures) c.expire_slot-k.ensures)
 
 pub returns : goal.returns
 returns c =
     let a = c.args in
-    let e : c.loop-i.i ≡ c.used_below-n.result = omega arith in
-    all_elapsed (table_of a.t.now) a.at a.period c.used_below-n.result _ _ (table_of c.raise_time.new.t) _ _ c.raise_time.ensures c.used_below-n.ensures.0 c.used_below-n.ensures.1 (ne_eqb a.period 0 c.if-period-eq0.false)
-    (rw e at c.loop-i.invariant.1)
+    let e : c.loop-i.i ≡ c.used_below-i-end.result = omega arith in
+    all_elapsed (table_of a.t.now) a.at a.period c.used_below-i-end.result _ _ (table_of c.raise_time.new.t) _ _ c.raise_time.ensures c.used_below-i-end.ensures.0 c.used_below-i-end.ensures.1 (ne_eqb a.period 0 c.if-period-eq0.false)
+    (rw e at c.loop-i.invariant)

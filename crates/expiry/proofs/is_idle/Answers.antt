@@ -12,4 +12,4 @@ use Rattle.expiry.proofs.is_idle.Goals as goal
 pub returns : goal.returns
 returns c =
     let a = c.args in
-    ap (λ n. eqb n 0) (c.taken_in.ensures.0 ∙ ap (count_if (λ (x : Held). true)) (alike_held _ _ c.call_four.ensures.0)) ∙ idle_count (call_at (table_of a.t.now) a.i)
+    ap (λ n. eqb n 0) (c.taken_in.ensures.0 ∙ ap (count_if (λ (x : Held). true)) (alike_held _ _ c.call_four.ensures)) ∙ idle_count (call_at (table_of a.t.now) a.i)

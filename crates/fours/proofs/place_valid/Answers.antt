@@ -10,5 +10,5 @@ returns-then-p-eq1 c =
 
 pub returns : goal.returns
 returns c =
-    rw (c.is_zero_tunnel.ensures, c.is_zero_lsp.ensures)
+    rw (c.eq.ensures, c.eq-2.ensures)
     (valid_free (place_of_words c.args.p) c.if-p-eq1.false)

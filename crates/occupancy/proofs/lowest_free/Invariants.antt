@@ -1,11 +1,8 @@
 -- `lowest_free` meets its contract: every slot of the words passed over is used, and the first word with a free one has it.
-use Prim.Native.Nat.{◌-◌, ◌*◌, ◌≤◌}
+use Prim.Native.Nat.{◌*◌}
 use Rattle.table.specs.Words.{table_of}
 use Rattle.table.proofs.Slots.{FullBelow}
 use Rattle.occupancy.proofs.lowest_free.Given as goal
 
 abbrev pub invariant-loop-k : goal.invariant-loop-k
-invariant-loop-k l = (l.k ≤ 4) × FullBelow (table_of l.t).occupied (64 * l.k)
-
-abbrev pub decreases-loop-k : goal.decreases-loop-k
-decreases-loop-k l = 4 - l.k
+invariant-loop-k l = FullBelow (table_of l.t).occupied (64 * l.k)

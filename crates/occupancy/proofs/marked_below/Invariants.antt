@@ -1,11 +1,8 @@
 -- `marked_below` meets its contract: no slot of the words passed over is marked, and the first word with a mark has the last.
-use Prim.Native.Nat.{◌*◌, ◌≤◌}
+use Prim.Native.Nat.{◌*◌}
 use Rattle.table.specs.Words.{table_of}
 use Rattle.table.proofs.Slots.{ClearFrom}
 use Rattle.occupancy.proofs.marked_below.Given as goal
 
 abbrev pub invariant-loop-k : goal.invariant-loop-k
-invariant-loop-k l = (l.k ≤ 4) × ClearFrom (table_of l.t).occupied (64 * l.k)
-
-abbrev pub decreases-loop-k : goal.decreases-loop-k
-decreases-loop-k l = l.k
+invariant-loop-k l = ClearFrom (table_of l.t).occupied (64 * l.k)

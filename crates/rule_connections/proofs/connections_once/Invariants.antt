@@ -1,5 +1,4 @@
 -- `connections_once` meets its contract: after `k` turns it has looked at the first `k` customers.
-use Prim.Native.Nat.{◌≤◌, ◌-◌}
 use mathlib.Core.Path.{◌≡◌}
 use mathlib.Core.Bool.{not, ◌||◌}
 use lib.Dec.{ltb}
@@ -12,7 +11,4 @@ use Rattle.rule_connections.proofs.connections_once.Given as goal
 
 abbrev pub invariant-loop-k : goal.invariant-loop-k
 invariant-loop-k l =
-    (l.k ≤ 8) × (l.once ≡ every_below (λ k. not (ltb k l.listed) || no_two same_connection (own (table_of l.t) k)) l.k)
-
-abbrev pub decreases-loop-k : goal.decreases-loop-k
-decreases-loop-k l = 8 - l.k
+    l.once ≡ every_below (λ k. not (ltb k l.listed) || no_two same_connection (own (table_of l.t) k)) l.k

@@ -10,19 +10,20 @@ use Rattle.rule_connections.proofs.Own.{own_once}
 use Rattle.rule_connections.proofs.customer_once.Goals as goal
 
 pub loop-i-init : goal.loop-i-init
-loop-i-init c = (omega arith, rw (rows_none _ _ _ _ _, below_none _), omega arith)
+loop-i-init c = (rw (rows_none _ _ _ _ _, below_none _), omega arith)
 
 pub loop-i-preserved : goal.loop-i-preserved
 loop-i-preserved c =
     let own = own_at (table_of c.args.t.now) c.customer_four-g.result.sender in
-    let e = c.put_call-n.ensures in
-    (omega arith, lsps_turn own c.loop-i.i [] _ _ c.loop-i.invariant.1 e.0, omega arith)
+    let e = c.put_call.ensures in
+    (lsps_turn own c.loop-i.i [] _ _ c.loop-i.invariant.0 e.0, omega arith)
 
 pub returns : goal.returns
 returns c =
     let t = c.args.t.now in
+    let u = c.used_below-i-end in
     let sender = c.customer_four-g.result.sender in
-    let e : c.loop-i.i ≡ c.used_below-used.result = omega (arith, c.loop-i-test.false, c.loop-i.invariant.0) in
-    c.rows_once.ensures sender
-    ∙ own_once (table_of t) c.args.k _ (four_at_word t c.customer_four-g.result) _ _ c.customer_four-g.ensures.0 c.used_below-used.ensures.0 c.used_below-used.ensures.1
-    (rw e at c.loop-i.invariant.1) c.put_four-n.ensures.0
+    let e : c.loop-i.i ≡ u.result = omega arith in
+    c.is_once.ensures sender
+    ∙ own_once (table_of t) c.args.k _ (four_at_word t c.customer_four-g.result) _ _ c.customer_four-g.ensures u.ensures.0 u.ensures.1
+    (rw e at c.loop-i.invariant.0) c.put_four.ensures.0

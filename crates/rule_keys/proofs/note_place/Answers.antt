@@ -10,12 +10,12 @@ pub returns-then-p-eq1 : goal.returns-then-p-eq1
 returns-then-p-eq1 c =
     let p = c.place_words-p in
     let z = c.args in
-    let e = c.note_key.ensures in
-    let one = place_taken (four_at_word z.t.now z.f) p.result z.j p.ensures _ _ c.if-p-eq1.true c.endpoint_at.ensures c.lsp_key-key.ensures in
-    (e.0, rw one e.1, omega arith)
+    let e = c.note.ensures in
+    let one = place_taken (four_at_word z.t.now z.f) p.result z.j p.ensures _ _ c.if-p-eq1.true c.endpoint_at.ensures c.lsp_key.ensures in
+    (rw one e.0, omega arith)
 
-pub returns : goal.returns
-returns c =
+pub returns-else-p-eq1 : goal.returns-else-p-eq1
+returns-else-p-eq1 c =
     let p = c.place_words-p in
     let none = place_free (four_at_word c.args.t.now c.args.f) p.result c.args.j p.ensures c.if-p-eq1.false in
-    (c.requires.0, rw none (sym (append-nil _)), omega arith)
+    (rw none (sym (append-nil _)), omega arith)

@@ -8,12 +8,10 @@ use Rattle.rule_keys.proofs.note_slot.Goals as goal
 pub returns-then-is_used : goal.returns-then-is_used
 unfolding list_if
 returns-then-is_used c =
-    let u = c.is_used in
     let e = c.note_call.ensures in
-    (e.0, rw (sym u.ensures ∙ c.if-is_used.true) e.1, e.2)
+    (rw (sym c.is_used.ensures ∙ c.if-is_used.true) e.0, e.1)
 
-pub returns : goal.returns
+pub returns-else-is_used : goal.returns-else-is_used
 unfolding list_if
-returns c =
-    let u = c.is_used in
-    (c.requires.0, rw (sym u.ensures ∙ c.if-is_used.false) (sym (append-nil _)), omega arith)
+returns-else-is_used c =
+    (rw (sym c.is_used.ensures ∙ c.if-is_used.false) (sym (append-nil _)), omega arith)

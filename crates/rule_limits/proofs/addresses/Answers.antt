@@ -6,15 +6,15 @@ use Rattle.rule_limits.specs.Tally.{addresses_of}
 use Rattle.rule_limits.proofs.addresses.Goals as goal
 
 pub loop-k-init : goal.loop-k-init
-loop-k-init c = (omega arith, fill_none _ _ 8 0 refl)
+loop-k-init c = fill_none _ _ 8 0 refl
 
 pub loop-k-preserved : goal.loop-k-preserved
 loop-k-preserved c =
     let l = c.loop-k in
-    (omega arith, fill_turn _ _ 8 _ _ _ (omega arith) l.invariant.1 (ap (λ (m : CustomerHead). m.address) c.customer_head-m.ensures.0))
+    fill_turn _ _ 8 _ _ _ (omega arith) l.invariant (ap (λ (m : CustomerHead). m.address) c.customer_head.ensures.0)
 
 pub returns : goal.returns
 unfolding addresses_of
 returns c =
     let e : c.loop-k.k ≡ 8 = omega arith in
-    rw e at c.loop-k.invariant.1 ∙ fill_all _ _ 8
+    rw e at c.loop-k.invariant ∙ fill_all _ _ 8

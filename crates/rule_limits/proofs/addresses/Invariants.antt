@@ -1,5 +1,4 @@
 -- `addresses` meets its contract: after `k` turns the first `k` are stored.
-use Prim.Native.Nat.{◌≤◌, ◌-◌}
 use mathlib.Core.Path.{◌≡◌}
 use lib.ListN.{get_or}
 use Rattle.lists.proofs.Filled.{filled}
@@ -8,7 +7,4 @@ use Rattle.table.specs.Words.{table_of}
 use Rattle.rule_limits.proofs.addresses.Given as goal
 
 abbrev pub invariant-loop-k : goal.invariant-loop-k
-invariant-loop-k l = (l.k ≤ 8) × (l.a ≡ filled (λ j. (customer_at (table_of l.t) j).address) (λ j. get_or l.initial.a j 0) 8 l.k)
-
-abbrev pub decreases-loop-k : goal.decreases-loop-k
-decreases-loop-k l = 8 - l.k
+invariant-loop-k l = l.a ≡ filled (λ j. (customer_at (table_of l.t) j).address) (λ j. get_or l.initial.a j 0) 8 l.k

@@ -1,5 +1,4 @@
 -- `count_calls` meets its contract: after `i` turns the calls of the first `i` slots are counted.
-use Prim.Native.Nat.{◌≤◌, ◌-◌}
 use mathlib.Core.Path.{◌≡◌}
 use Rattle.lists.specs.Below.{below}
 use Rattle.table.specs.Lists.{open_at}
@@ -8,7 +7,4 @@ use Rattle.rule_limits.specs.Tally.{calls_each}
 use Rattle.rule_limits.proofs.count_calls.Given as goal
 
 abbrev pub invariant-loop-i : goal.invariant-loop-i
-invariant-loop-i l = (l.i ≤ l.n) × (l.counts ≡ calls_each (table_of l.t) (below (open_at (table_of l.t)) l.i))
-
-abbrev pub decreases-loop-i : goal.decreases-loop-i
-decreases-loop-i l = l.n - l.i
+invariant-loop-i l = l.counts ≡ calls_each (table_of l.t) (below (open_at (table_of l.t)) l.i)

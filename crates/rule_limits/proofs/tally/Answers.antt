@@ -18,24 +18,24 @@ as_bit true = refl
 as_bit false = refl
 
 pub loop-k-init : goal.loop-k-init
-loop-k-init c = (omega arith, fill_none _ _ 8 0 c.requires.0)
+loop-k-init c = fill_none _ _ 8 0 c.requires.0
 
 pub overflow_add-counts : goal.overflow_add-counts
 overflow_add-counts c =
     let l = c.loop-k in
     let here = eqb (get_or c.args.addresses.now l.k 0) c.args.sender in
-    let e = fill_left _ _ 8 l.k l.k _ 0 (omega arith) (omega arith) l.invariant.1 in
-    Fits-under _ _ 201 (omega (arith, e, c.requires.1 l.k (omega arith), as_bit here, one_bit here)) _
+    let e = fill_left _ _ 8 l.k l.k _ 0 (omega arith) (omega arith) l.invariant in
+    Fits-under _ _ 201 (omega (arith, e, c.requires.1 l.k (omega arith), c.from.ensures, as_bit here, one_bit here)) _
 
 pub loop-k-preserved : goal.loop-k-preserved
 loop-k-preserved c =
     let l = c.loop-k in
     let a = c.args in
-    let e = fill_left _ _ 8 l.k l.k _ 0 (omega arith) (omega arith) l.invariant.1 in
-    (omega arith, fill_turn _ _ 8 l.k _ _ (omega arith) l.invariant.1 (ap₂ ◌+◌ e (as_bit (eqb (get_or a.addresses.now l.k 0) a.sender))))
+    let e = fill_left _ _ 8 l.k l.k _ 0 (omega arith) (omega arith) l.invariant in
+    fill_turn _ _ 8 l.k _ _ (omega arith) l.invariant (ap₂ ◌+◌ e (c.from.ensures ∙ as_bit (eqb (get_or a.addresses.now l.k 0) a.sender)))
 
 pub returns : goal.returns
 unfolding tallied
 returns c =
     let e : c.loop-k.k ≡ 8 = omega arith in
-    rw e at c.loop-k.invariant.1 ∙ fill_all _ _ 8
+    rw e at c.loop-k.invariant ∙ fill_all _ _ 8

@@ -1,5 +1,5 @@
 -- `tally` meets its contract: after `k` turns the first `k` counts have the call.
-use Prim.Native.Nat.{◌+◌, ◌≤◌, ◌-◌}
+use Prim.Native.Nat.{◌+◌}
 use mathlib.Core.Path.{◌≡◌}
 use lib.Dec.{eqb}
 use lib.ListN.{get_or}
@@ -9,7 +9,4 @@ use Rattle.rule_limits.proofs.tally.Given as goal
 
 abbrev pub invariant-loop-k : goal.invariant-loop-k
 invariant-loop-k l =
-    (l.k ≤ 8) × (l.counts ≡ filled (λ j. get_or l.initial.counts j 0 + bit (eqb (get_or l.addresses j 0) l.sender)) (λ j. get_or l.initial.counts j 0) 8 l.k)
-
-abbrev pub decreases-loop-k : goal.decreases-loop-k
-decreases-loop-k l = 8 - l.k
+    l.counts ≡ filled (λ j. get_or l.initial.counts j 0 + bit (eqb (get_or l.addresses j 0) l.sender)) (λ j. get_or l.initial.counts j 0) 8 l.k

@@ -1,5 +1,4 @@
 -- `apart_from_earlier` meets its contract: after `j` turns it has looked at the first `j` slots.
-use Prim.Native.Nat.{◌≤◌, ◌-◌}
 use mathlib.Core.Path.{◌≡◌}
 use Rattle.lists.specs.Below.{every_below}
 use Rattle.table.specs.Words.{table_of}
@@ -7,7 +6,4 @@ use Rattle.rule_uniqueness.specs.Conflict.{apart_at}
 use Rattle.rule_uniqueness.proofs.apart_from_earlier.Given as goal
 
 abbrev pub invariant-loop-j : goal.invariant-loop-j
-invariant-loop-j l = (l.j ≤ l.i) × (l.apart ≡ every_below (apart_at (table_of l.t) l.i) l.j)
-
-abbrev pub decreases-loop-j : goal.decreases-loop-j
-decreases-loop-j l = l.i - l.j
+invariant-loop-j l = l.apart ≡ every_below (apart_at (table_of l.t) l.i) l.j

@@ -20,5 +20,5 @@ returns c =
     let b = p.2 c.args.i p.1 in
     let long = name_room w c.args.j p.0 in
     let wide = name_room w c.args.i p.1 in
-    rw (c.same_call.ensures, c.same_names.ensures, c.call_head-c.ensures, c.call_head-d.ensures)
+    rw (c.eq.ensures, c.same_names.ensures, c.call_head-c.ensures, c.call_head-d.ensures)
     (one_pair e f _ _ _ refl refl (names_whole x.name y.name x.size y.size long wide a.0 b.0 a.1 b.1))

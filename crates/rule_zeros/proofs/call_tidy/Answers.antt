@@ -18,9 +18,9 @@ returns-then-c c =
 pub ends_at-requires : goal.ends_at-requires
 ends_at-requires c =
     let size = some_size _ c.if-c.false in
-    (c.requires.0, size.0, size.1, c.requires.1)
+    (c.requires, size.0, size.1)
 
 pub returns : goal.returns
 returns c =
     tidy_by_head _ _ c.call_head-c.ensures c.args.time _ _ _ _ c.if-c.false c.is_call_id.ensures c.ends_at.ensures c.request_tidy.ensures
-    (c.four_valid.ensures ∙ alike_valid _ _ c.call_four.ensures.0)
+    (c.four_valid.ensures ∙ alike_valid _ _ c.call_four.ensures)

@@ -8,4 +8,4 @@ use Rattle.rule_zeros.proofs.customer_free_clear.Goals as goal
 pub returns : goal.returns
 returns c =
     let a = c.args in
-    customer_by_four (customer_at (table_of a.t.now) a.k) (four_at_word a.t.now c.customer_four-f.result) _ _ _ c.customer_four-f.ensures.0 c.kept_tidy.ensures c.four_valid.ensures c.endpoints_clear.ensures
+    customer_by_four (customer_at (table_of a.t.now) a.k) (four_at_word a.t.now c.customer_four-f.result) _ _ _ c.customer_four-f.ensures c.kept_tidy.ensures c.four_valid.ensures c.endpoints_clear.ensures

@@ -1,5 +1,4 @@
 -- `endpoints_clear` meets its contract: each turn adds its place's test.
-use Prim.Native.Nat.{◌≤◌, ◌-◌}
 use mathlib.Core.Path.{◌≡◌}
 use mathlib.Core.Bool.{◌||◌}
 use lib.Dec.{eqb}
@@ -9,7 +8,4 @@ use Rattle.table_words.specs.Fours.{four_at_word}
 use Rattle.rule_zeros.proofs.endpoints_clear.Given as goal
 
 abbrev pub invariant-loop-j : goal.invariant-loop-j
-invariant-loop-j l = (l.j ≤ 4) × (l.clear ≡ every_below (λ j. is_taken (place_at (four_at_word l.t l.f) j) || eqb ((four_at_word l.t l.f).endpoint j) 0) l.j)
-
-abbrev pub decreases-loop-j : goal.decreases-loop-j
-decreases-loop-j l = 4 - l.j
+invariant-loop-j l = l.clear ≡ every_below (λ j. is_taken (place_at (four_at_word l.t l.f) j) || eqb ((four_at_word l.t l.f).endpoint j) 0) l.j

@@ -1,5 +1,4 @@
 -- `slots_tidy` meets its contract: each turn adds its slot's tests, and the slots past the last used one are free.
-use Prim.Native.Nat.{◌≤◌, ◌-◌}
 use mathlib.Core.Path.{◌≡◌}
 use Rattle.lists.specs.Below.{every_below}
 use Rattle.table.specs.Words.{table_of}
@@ -7,7 +6,4 @@ use Rattle.rule_zeros.proofs.Free.{slot_tidy}
 use Rattle.rule_zeros.proofs.slots_tidy.Given as goal
 
 abbrev pub invariant-loop-i : goal.invariant-loop-i
-invariant-loop-i l = (l.i ≤ l.n) × (l.tidy ≡ every_below (slot_tidy (table_of l.t)) l.i)
-
-abbrev pub decreases-loop-i : goal.decreases-loop-i
-decreases-loop-i l = l.n - l.i
+invariant-loop-i l = l.tidy ≡ every_below (slot_tidy (table_of l.t)) l.i

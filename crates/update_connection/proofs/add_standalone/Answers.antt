@@ -7,4 +7,4 @@ use Rattle.update_connection.proofs.add_standalone.Goals as goal
 pub returns : goal.returns
 unfolding added_standalone
 returns c =
-    c.put_customer_place.ensures ∙ rw (c.free_place-j.ensures.0, free_alike _ _ c.customer_four.ensures.0, c.place_for.ensures)
+    c.put_customer_place.ensures ∙ rw (c.free_place-j.ensures.0, free_alike _ _ c.customer_four.ensures, c.place_for.ensures)

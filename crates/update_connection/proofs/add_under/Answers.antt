@@ -7,4 +7,4 @@ use Rattle.update_connection.proofs.add_under.Goals as goal
 pub returns : goal.returns
 unfolding added_under
 returns c =
-    c.put_call_place.ensures ∙ rw (c.free_place-j.ensures.0, free_alike _ _ c.call_four.ensures.0, c.place_for.ensures)
+    c.put_call_place.ensures ∙ rw (c.free_place-j.ensures.0, free_alike _ _ c.call_four.ensures, c.place_for.ensures)

@@ -7,4 +7,4 @@ use Rattle.update_connection.proofs.remove_standalone.Goals as goal
 pub returns : goal.returns
 unfolding removed_standalone
 returns c =
-    c.put_customer_place.ensures ∙ rw (c.place_with-j.ensures.0, with_alike _ _ c.customer_four.ensures.0, c.no_place.ensures)
+    c.put_customer_place.ensures ∙ rw (c.place_with-j.ensures.0, with_alike _ _ c.customer_four.ensures, c.no_place.ensures)

@@ -1,6 +1,5 @@
 -- `choosing::long_chains` meets its contract: after `k` turns those of the last `k` records that are sound stand in their
 -- chains.
-use Prim.Native.Nat.{◌≤◌, ◌-◌}
 use mathlib.Core.Path.{◌≡◌}
 use lib.ListN.{length}
 use Rattle.lists.specs.Chain.{InChains}
@@ -10,7 +9,4 @@ use Rattle.checkpoint_choice.proofs.choosing.long_chains.Given as goal
 
 abbrev pub invariant-loop-k : goal.invariant-loop-k
 invariant-loop-k l =
-    (l.k ≤ l.calls) × (length l.heads ≡ 1024) × (length l.links ≡ 4096) × InChains (sound_at l.sound l.calls) (chain_at l.f l.s l.calls) l.heads l.links l.k
-
-abbrev pub decreases-loop-k : goal.decreases-loop-k
-decreases-loop-k l = l.calls - l.k
+    (length l.heads ≡ 1024) × InChains (sound_at l.sound l.c.calls) (chain_at l.f l.c.bytes.now l.c.calls) l.heads l.links l.k

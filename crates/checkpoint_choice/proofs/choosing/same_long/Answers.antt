@@ -1,25 +1,17 @@
 -- `choosing::same_long` meets its contract: the names are compared where the pair is the same.
-use Rattle.table.specs.Lists.{ids_of}
-use Rattle.table.specs.Rules.{same_bytes, same_pair, same_long}
-use Rattle.spec_checkpoint.specs.Layout.{call_record}
-use Rattle.checkpoint_choice.proofs.Tests.{first_fails, first_passes}
-use mathlib.Core.Path.{ap}
-use mathlib.Core.Bool.{not}
+use mathlib.Core.Path.{◌∙◌}
+use Rattle.table.specs.Rules.{same_long}
+use Rattle.checkpoint_choice.proofs.SamePointwise.{same_pointwise}
 use Rattle.checkpoint_choice.proofs.choosing.same_long.Goals as goal
 
-pub returns-then-not-pair : goal.returns-then-not-pair
+pub returns-then-pair : goal.returns-then-pair
 unfolding same_long
-returns-then-not-pair c =
-    let a = c.args in
-    let x = ids_of (call_record a.s.now a.i).call in
-    let y = ids_of (call_record a.s.now a.j).call in
-    first_fails (same_pair x y) (same_bytes x.long y.long) (rw (c.get32-4.ensures, c.get32-3.ensures, c.get32-2.ensures, c.get32.ensures) at (ap not c.if-not-pair.true))
+returns-then-pair c =
+    let same = rw (c.endpoint.ensures, c.endpoint-2.ensures, c.sender.ensures, c.sender-2.ensures) at c.if-pair.true in
+    rw (same, ← c.name.ensures, ← c.name-then-pair.ensures) (c.eq.ensures ∙ same_pointwise c.name.result.now c.name-then-pair.result.now)
 
-pub returns : goal.returns
+pub returns-else-pair : goal.returns-else-pair
 unfolding same_long
-returns c =
-    let a = c.args in
-    let x = ids_of (call_record a.s.now a.i).call in
-    let y = ids_of (call_record a.s.now a.j).call in
-    rw c.same_name.ensures
-    (first_passes (same_pair x y) (same_bytes x.long y.long) (rw (c.get32-4.ensures, c.get32-3.ensures, c.get32-2.ensures, c.get32.ensures) at (ap not c.if-not-pair.false)))
+returns-else-pair c =
+    let other = rw (c.endpoint.ensures, c.endpoint-2.ensures, c.sender.ensures, c.sender-2.ensures) at c.if-pair.false in
+    rw (c.if-pair.false, other)

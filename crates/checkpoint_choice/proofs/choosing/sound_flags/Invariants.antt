@@ -1,8 +1,5 @@
 -- `choosing::sound_flags` meets its contract: after `i` turns the first `i` places are filled.
-use Prim.Native.Nat.{◌≤◌, ◌-◌}
-use mathlib.Core.Path.{◌≡◌}
-use lib.ListN.{length}
-use Rattle.lists.specs.Count.{bit}
+use mathlib.Core.Bool.{false}
 use Rattle.table.specs.Words.{table_of}
 use Rattle.spec_checkpoint.specs.Salvage.{sound_alone}
 use Rattle.spec_checkpoint.specs.Layout.{call_record}
@@ -10,7 +7,4 @@ use Rattle.checkpoint_choice.specs.Ranked.{Filled}
 use Rattle.checkpoint_choice.proofs.choosing.sound_flags.Given as goal
 
 abbrev pub invariant-loop-i : goal.invariant-loop-i
-invariant-loop-i l = (l.i ≤ l.calls) × (length l.flags ≡ 4096) × Filled (λ j. bit (sound_alone (table_of l.t) (call_record l.s j))) l.flags l.i
-
-abbrev pub decreases-loop-i : goal.decreases-loop-i
-decreases-loop-i l = l.calls - l.i
+invariant-loop-i l = Filled false (λ j. sound_alone (table_of l.t) (call_record l.c.bytes.now j)) l.flags l.i

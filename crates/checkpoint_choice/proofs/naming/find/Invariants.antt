@@ -10,7 +10,7 @@ use Rattle.checkpoint_choice.proofs.naming.find.Given as goal
 
 abbrev pub invariant-loop-e : goal.invariant-loop-e
 invariant-loop-e l =
-    (f : Factors) (n : ℕ) → l.initial.e ≡ get_or l.heads (short_chain f l.short l.endpoint l.sender) 0 → Noted f l.s l.heads l.links n → Searched f l.s n l.short l.endpoint l.sender l.e
+    (f : Factors) (n : ℕ) → l.initial.e ≡ get_or l.heads (short_chain f l.x.short l.x.endpoint l.x.sender) 0 → Noted f l.s l.heads l.links n → Searched f l.s n l.x.short l.x.endpoint l.x.sender l.e
 
 abbrev pub decreases-loop-e : goal.decreases-loop-e
 decreases-loop-e l = l.e

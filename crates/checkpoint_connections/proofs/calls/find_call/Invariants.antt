@@ -1,5 +1,5 @@
 -- `calls::find_call` meets its contract: a call that is open is met before a free cell.
-use Prim.Native.Nat.{◌-◌, ◌<◌}
+use Prim.Native.Nat.{◌-◌}
 use Rattle.lists.specs.Count.{has}
 use Rattle.table.specs.Lists.{entries}
 use Rattle.table.specs.Words.{table_of}
@@ -9,7 +9,4 @@ use Rattle.checkpoint_connections.proofs.Cells.{Passed}
 use Rattle.checkpoint_connections.proofs.calls.find_call.Given as goal
 
 abbrev pub invariant-loop-j : goal.invariant-loop-j
-invariant-loop-j l = (l.initial.j < 2048) × Passed (λ v. has (is_call_in (held_by l.x) (v - 1)) (entries (table_of l.t))) l.cells l.initial.j l.j
-
-abbrev pub decreases-loop-j : goal.decreases-loop-j
-decreases-loop-j l = 2304 - l.j
+invariant-loop-j l = Passed (λ v. has (is_call_in (held_by l.x) (v - 1)) (entries (table_of l.t))) l.cells l.place l.j

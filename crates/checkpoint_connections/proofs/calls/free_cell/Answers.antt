@@ -6,18 +6,12 @@ use Rattle.checkpoint_connections.proofs.calls.free_cell.Goals as goal
 pub loop-j-init : goal.loop-j-init
 loop-j-init c = passed_start _ _ _
 
-pub bounds-cells-j : goal.bounds-cells-j
-bounds-cells-j c = omega (arith, c.requires, passed_most _ _ _ _ c.loop-j.invariant)
-
-pub overflow_add-j : goal.overflow_add-j
-overflow_add-j c = omega (arith, c.requires, passed_most _ _ _ _ c.loop-j.invariant)
-
-pub loop-j-smaller : goal.loop-j-smaller
-loop-j-smaller c = omega (arith, c.requires, passed_most _ _ _ _ c.loop-j.invariant)
+pub returns-then-cells-j-eq0 : goal.returns-then-cells-j-eq0
+returns-then-cells-j-eq0 c =
+    (passed_free _ _ _ _ c.loop-j.invariant c.if-cells-j-eq0.true, omega arith)
 
 pub loop-j-preserved : goal.loop-j-preserved
-loop-j-preserved c = passed_on _ _ _ _ c.loop-j.invariant c.loop-j-test.true refl
+loop-j-preserved c = passed_on _ _ _ _ c.loop-j.invariant c.if-cells-j-eq0.false refl
 
-pub returns : goal.returns
-returns c =
-    (passed_free _ _ _ _ c.loop-j.invariant c.loop-j-test.false, omega (arith, c.requires, passed_most _ _ _ _ c.loop-j.invariant))
+pub unreachable-requires : goal.unreachable-requires
+unreachable-requires c = omega (arith, c.requires, passed_most _ _ _ _ c.loop-j.invariant)

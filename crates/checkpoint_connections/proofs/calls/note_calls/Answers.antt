@@ -11,10 +11,7 @@ use Rattle.checkpoint_connections.proofs.calls.note_calls.Goals as goal
 
 pub loop-i-init : goal.loop-i-init
 loop-i-init c =
-    (omega arith, rw (below_none (open_at (table_of c.args.t.now)), c.requires) (calls_none c.args.f 0))
-
-pub loop-i-preserved : goal.loop-i-preserved
-loop-i-preserved c = (omega arith, c.note_slot.ensures)
+    rw (below_none (open_at (table_of c.args.t.now)), c.requires) (calls_none c.args.f 0)
 
 pub returns : goal.returns
 returns c =
@@ -22,4 +19,4 @@ returns c =
     let t = table_of c.args.t.now in
     let e : c.loop-i.i ≡ u.result = omega arith in
     rw (open_rest t u.result u.ensures.0 u.ensures.1)
-    (calls_same c.args.f (below (open_at t) u.result) (below (open_at t) u.result) c.loop-i.cells u.result slots (λ p. refl) u.ensures.0 (rw e at c.loop-i.invariant.1))
+    (calls_same c.args.f (below (open_at t) u.result) (below (open_at t) u.result) c.loop-i.cells u.result slots (λ p. refl) u.ensures.0 (rw e at c.loop-i.invariant))

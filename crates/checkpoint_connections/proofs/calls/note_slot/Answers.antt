@@ -7,7 +7,7 @@ use Rattle.checkpoint_connections.proofs.calls.note_slot.Goals as goal
 
 pub free_cell-j-requires : goal.free_cell-j-requires
 free_cell-j-requires c =
-    (c.requires.1.sized, c.spread.ensures.1, omega (arith, c.requires.0, c.requires.1.most))
+    (c.spread.ensures.1, omega (arith, c.requires.0, c.requires.1.most))
 
 pub bounds-cells-j : goal.bounds-cells-j
 bounds-cells-j c =

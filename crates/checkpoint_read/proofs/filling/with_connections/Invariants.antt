@@ -1,6 +1,5 @@
 -- `filling::with_connections` meets its contract: after `k` turns the table is the one with the first `k` records, and
 -- what is in it stands in cells.
-use Prim.Native.Nat.{◌≤◌, ◌-◌}
 use mathlib.Core.Path.{◌≡◌}
 use Rattle.table.specs.Words.{table_of}
 use Rattle.spec_checkpoint.specs.Salvage.{with_connections}
@@ -8,7 +7,4 @@ use Rattle.checkpoint_connections.specs.Cells.{TableInCells}
 use Rattle.checkpoint_read.proofs.filling.with_connections.Given as goal
 
 abbrev pub invariant-loop-k : goal.invariant-loop-k
-invariant-loop-k l = (l.k ≤ l.connections) × (table_of l.t ≡ with_connections (table_of l.initial.t) l.s l.k) × TableInCells l.f l.s l.kept l.held (table_of l.t)
-
-abbrev pub decreases-loop-k : goal.decreases-loop-k
-decreases-loop-k l = l.connections - l.k
+invariant-loop-k l = (table_of l.t ≡ with_connections (table_of l.initial.t) l.c.bytes.now l.k) × TableInCells l.f l.c.bytes.now l.kept l.held (table_of l.t)

@@ -7,9 +7,9 @@ use Rattle.checkpoint_salvage.proofs.placing.record_request.Goals as goal
 
 pub returns : goal.returns
 returns c =
-    let a = c.args in
-    let few = rw (← c.to_usize-size.ensures.0) at c.requires.1 in (
-      rw (c.get16.ensures, c.get32-2.ensures, c.get32.ensures, c.to_usize-size.ensures.0, take-take _ 32 (drop (4 + 55 * a.i + 12) a.s.now) c.requires.1),
+    let r = c.args.r in
+    let few = rw (← c.size.ensures.0) at c.requires in (
+      rw (c.id.ensures, c.sender.ensures, c.endpoint.ensures, c.size.ensures.0, c.start.ensures, take-take _ 32 (drop (4 + 55 * r.number + 12) r.bytes.now) c.requires),
       omega arith,
       few,
     )

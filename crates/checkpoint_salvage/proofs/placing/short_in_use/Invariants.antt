@@ -1,5 +1,5 @@
 -- `placing::short_in_use` meets its contract: after `i` turns it has asked the first `i` slots.
-use Prim.Native.Nat.{ℕ, ◌≤◌, ◌-◌}
+use Prim.Native.Nat.{ℕ}
 use mathlib.Core.Path.{◌≡◌}
 use mathlib.Core.List.{List}
 use Rattle.lists.specs.Below.{below}
@@ -12,7 +12,4 @@ abbrev pub asked : ℕ → ℕ → ℕ → List ℕ → Ids
 asked endpoint sender id long = record { endpoint = endpoint; sender = sender; short = id; long = long }
 
 abbrev pub invariant-loop-i : goal.invariant-loop-i
-invariant-loop-i l = (l.i ≤ l.n) × ((long : List ℕ) → l.found ≡ short_in_use (below (open_at (table_of l.t)) l.i) (asked l.endpoint l.sender l.id.0 long))
-
-abbrev pub decreases-loop-i : goal.decreases-loop-i
-decreases-loop-i l = l.n - l.i
+invariant-loop-i l = (long : List ℕ) → l.found ≡ short_in_use (below (open_at (table_of l.t)) l.i) (asked l.endpoint l.sender l.id.0 long)

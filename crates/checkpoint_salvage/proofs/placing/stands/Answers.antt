@@ -3,7 +3,6 @@ use Prim.Native.Nat.{ℕ, ◌<◌}
 use mathlib.Core.Path.{◌≡◌, sym, ap, ◌∙◌}
 use mathlib.Core.List.{List}
 use mathlib.Core.Bool.{true, false}
-use borrow.Author.Tests.{not-true, not-false}
 use Rattle.lists.proofs.Tests.{both}
 use Rattle.table.specs.Words.{table_of}
 use Rattle.table.specs.Total.{total_of}
@@ -13,7 +12,8 @@ use Rattle.table.specs.Rules.{valid_ids, call_free_clear, rules_hold}
 use Rattle.spec_changes.proofs.Words.{words_calls}
 use Rattle.spec_changes.proofs.Valid.{ids_named}
 use Rattle.spec_calls.specs.CallRules.{ids_in}
-use Rattle.spec_checkpoint.specs.Layout.{call_record}
+use Rattle.checkpoint_records.specs.declared.call.CallRecord.{CallRecord}
+use Rattle.checkpoint_records.specs.Record.{read_of}
 use Rattle.spec_checkpoint.specs.Salvage.{placed}
 use Rattle.spec_checkpoint.proofs.Part.{record_bare}
 use Rattle.find_call.proofs.Looks.{found}
@@ -21,53 +21,52 @@ use Rattle.checkpoint_salvage.proofs.Stands.{stands_beside, short_stands, stands
 use Rattle.checkpoint_salvage.proofs.placing.stands.Goals as goal
 
 -- the law at the place where the function begins
-law : (w s : List ℕ) (i : ℕ) → rules_hold (table_of w) ≡ true → (call_record s i).slot < total_of (table_of w) → is_used (table_of w).occupied (call_record s i).slot ≡ false
-    → stands_beside (table_of w) (call_record s i) ≡ rules_hold (placed (table_of w) (call_record s i))
-law w s i rules inside free = stands_is (table_of w) (call_record s i) (words_calls w) (used_long w) inside free (record_bare s i) rules
+law : (w : List ℕ) (r : CallRecord) → rules_hold (table_of w) ≡ true → (read_of r).slot < total_of (table_of w) → is_used (table_of w).occupied (read_of r).slot ≡ false
+    → stands_beside (table_of w) (read_of r) ≡ rules_hold (placed (table_of w) (read_of r))
+law w r rules inside free = stands_is (table_of w) (read_of r) (words_calls w) (used_long w) inside free (record_bare r.bytes.now r.number) rules
 
 pub returns-then-not-tidy : goal.returns-then-not-tidy
-returns-then-not-tidy c = rw (sym c.tidy.ensures ∙ c.if-not-tidy.true) at (law c.args.t.now c.args.s.now c.args.i c.requires.1 c.requires.2 c.requires.3)
+returns-then-not-tidy c = rw (sym c.tidy.ensures ∙ c.if-not-tidy.true) at (law c.args.t.now c.args.r c.requires.0 c.requires.1 c.requires.2)
 
 pub record_request-q-requires : goal.record_request-q-requires
 record_request-q-requires c =
-    let r = call_record c.args.s.now c.args.i in
-    (c.requires.0, (ids_named r.call (both (valid_ids r.call) (call_free_clear r.call) (sym c.tidy.ensures ∙ c.if-not-tidy.false)).0).most)
+    let r = read_of c.args.r in
+    ((ids_named r.call (both (valid_ids r.call) (call_free_clear r.call) (sym c.tidy.ensures ∙ c.if-not-tidy.false)).0).most)
 
-pub returns-then-not-m : goal.returns-then-not-m
-returns-then-not-m c =
+pub returns-in_default : goal.returns-in_default
+returns-in_default c =
     let same = ap (λ x. x.sender) c.record_request-q.ensures.0 in
-    rw (sym c.tidy.ensures ∙ c.if-not-tidy.false, rw same at (sym c.listing_of-m.ensures.known ∙ not-true _ c.if-not-m.true)) at (law c.args.t.now c.args.s.now c.args.i c.requires.1 c.requires.2 c.requires.3)
+    rw (sym c.tidy.ensures ∙ c.if-not-tidy.false, rw same at (c.in_default.ensures)) at (law c.args.t.now c.args.r c.requires.0 c.requires.1 c.requires.2)
 
 pub returns-then-short_in_use : goal.returns-then-short_in_use
 returns-then-short_in_use c =
-    let s = c.args.s.now in
-    let r = call_record s c.args.i in
+    let r = read_of c.args.r in
     let e = c.record_request-q.ensures.0 in
-    let short = rw e at (sym (c.short_in_use.ensures (ids_in s c.record_request-q.result).long) ∙ c.if-short_in_use.true) in
-    sym (short_stands (table_of c.args.t.now) r short) ∙ law c.args.t.now c.args.s.now c.args.i c.requires.1 c.requires.2 c.requires.3
+    let short = rw e at (sym (c.short_in_use.ensures (ids_in c.args.r.bytes.now c.record_request-q.result).long) ∙ c.if-short_in_use.true) in
+    sym (short_stands (table_of c.args.t.now) r short) ∙ law c.args.t.now c.args.r c.requires.0 c.requires.1 c.requires.2
 
 pub returns-then-request_in_use : goal.returns-then-request_in_use
 returns-then-request_in_use c =
     let same = ap (λ x. x.sender) c.record_request-q.ensures.0 in
     rw (
       sym c.tidy.ensures ∙ c.if-not-tidy.false,
-      rw same at (sym c.listing_of-m.ensures.known ∙ not-false _ c.if-not-m.false),
+      rw same at c.in-Some.ensures.0,
       sym c.request_in_use.ensures ∙ c.if-request_in_use.true,
-    ) at (law c.args.t.now c.args.s.now c.args.i c.requires.1 c.requires.2 c.requires.3)
+    ) at (law c.args.t.now c.args.r c.requires.0 c.requires.1 c.requires.2)
 
 pub returns-then-share_used_up : goal.returns-then-share_used_up
 returns-then-share_used_up c =
     let same = ap (λ x. x.sender) c.record_request-q.ensures.0 in
     rw (
       sym c.tidy.ensures ∙ c.if-not-tidy.false,
-      rw same at (sym c.listing_of-m.ensures.known ∙ not-false _ c.if-not-m.false),
+      rw same at c.in-Some.ensures.0,
       sym c.request_in_use.ensures ∙ c.if-request_in_use.false,
       rw same at (sym c.share_used_up.ensures ∙ c.if-share_used_up.true),
-    ) at (law c.args.t.now c.args.s.now c.args.i c.requires.1 c.requires.2 c.requires.3)
+    ) at (law c.args.t.now c.args.r c.requires.0 c.requires.1 c.requires.2)
 
 pub look_up-look-requires : goal.look_up-look-requires
 look_up-look-requires c =
-    (c.requires.1, c.record_request-q.ensures.1, c.record_request-q.ensures.2)
+    (c.requires.0, c.record_request-q.ensures.1, c.record_request-q.ensures.2)
 
 pub returns : goal.returns
 returns c =
@@ -77,7 +76,7 @@ returns c =
     rw (f.long, f.short, e)
     (rw (
       sym c.tidy.ensures ∙ c.if-not-tidy.false,
-      rw same at (sym c.listing_of-m.ensures.known ∙ not-false _ c.if-not-m.false),
+      rw same at c.in-Some.ensures.0,
       sym c.request_in_use.ensures ∙ c.if-request_in_use.false,
       rw same at (sym c.share_used_up.ensures ∙ c.if-share_used_up.false),
-    ) at (law c.args.t.now c.args.s.now c.args.i c.requires.1 c.requires.2 c.requires.3))
+    ) at (law c.args.t.now c.args.r c.requires.0 c.requires.1 c.requires.2))

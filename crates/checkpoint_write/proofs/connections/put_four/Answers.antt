@@ -10,22 +10,22 @@ pub returns-then-not-used : goal.returns-then-not-used
 returns-then-not-used c = rw (held_list_if _ _) (put_nothing _ _ _ (c.if-not-used.true))
 
 pub loop-j-init : goal.loop-j-init
-loop-j-init c = (omega arith, none _ _)
+loop-j-init c = none _ _
 
 pub put_place-at-requires : goal.put_place-at-requires
 put_place-at-requires c =
     let used = c.if-not-used.false in
-    (c.requires.0, omega arith, c.requires.1 used, row_room (held_place (four_at_word c.args.t.now c.args.f)) _ _ 4 (omega arith) (rw (list_if_is _ _ used) at c.requires.2) c.loop-j.invariant.1)
+    (omega arith, c.requires.0 used, row_room (held_place (four_at_word c.args.t.now c.args.f)) _ _ 4 (omega arith) (rw (list_if_is _ _ used) at c.requires.1) c.loop-j.invariant)
 
 pub overflow_add-at : goal.overflow_add-at
 overflow_add-at c =
-    omega (arith, row_within (held_place (four_at_word c.args.t.now c.args.f)) _ _ 4 (omega arith) (rw (list_if_is _ _ (c.if-not-used.false)) at c.requires.2) c.loop-j.invariant.1 c.put_place-at.ensures)
+    omega (arith, row_within (held_place (four_at_word c.args.t.now c.args.f)) _ _ 4 (omega arith) (rw (list_if_is _ _ (c.if-not-used.false)) at c.requires.1) c.loop-j.invariant c.put_place-at.ensures)
 
 pub loop-j-preserved : goal.loop-j-preserved
 loop-j-preserved c =
-    (omega arith, row_turn (held_place (four_at_word c.args.t.now c.args.f)) _ _ 4 (omega arith) (rw (list_if_is _ _ (c.if-not-used.false)) at c.requires.2) c.loop-j.invariant.1 c.put_place-at.ensures)
+    row_turn (held_place (four_at_word c.args.t.now c.args.f)) _ _ 4 (omega arith) (rw (list_if_is _ _ (c.if-not-used.false)) at c.requires.1) c.loop-j.invariant c.put_place-at.ensures
 
 pub returns : goal.returns
 returns c =
     let a = c.args in
-    rw (list_if_is _ _ (c.if-not-used.false)) (row_complete (held_place (four_at_word a.t.now a.f)) _ 4 (omega arith) c.loop-j.invariant.1)
+    rw (list_if_is _ _ (c.if-not-used.false)) (row_complete (held_place (four_at_word a.t.now a.f)) _ 4 (omega arith) c.loop-j.invariant)

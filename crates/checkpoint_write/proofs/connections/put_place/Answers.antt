@@ -11,21 +11,21 @@ returns-then-p-ne1 c =
 
 pub overflow_cast-f : goal.overflow_cast-f
 overflow_cast-f c =
-    omega (arith, c.requires.2.call)
+    omega (arith, c.requires.1.call)
 
 pub overflow_cast-p : goal.overflow_cast-p
 overflow_cast-p c =
-    let fits = numbers_fit (four_at_word c.args.t.now c.args.f) c.args.j (place_of_words c.place_words-p.result) c.place_words-p.ensures c.if-p-ne1.false c.requires.2 c.requires.1 in
+    let fits = numbers_fit (four_at_word c.args.t.now c.args.f) c.args.j (place_of_words c.place_words-p.result) c.place_words-p.ensures c.if-p-ne1.false c.requires.1 c.requires.0 in
     omega (arith, fits.0)
 
 pub overflow_cast-p-2 : goal.overflow_cast-p-2
 overflow_cast-p-2 c =
-    let fits = numbers_fit (four_at_word c.args.t.now c.args.f) c.args.j (place_of_words c.place_words-p.result) c.place_words-p.ensures c.if-p-ne1.false c.requires.2 c.requires.1 in
+    let fits = numbers_fit (four_at_word c.args.t.now c.args.f) c.args.j (place_of_words c.place_words-p.result) c.place_words-p.ensures c.if-p-ne1.false c.requires.1 c.requires.0 in
     omega (arith, fits.1)
 
 pub put_connection-requires : goal.put_connection-requires
 put_connection-requires c =
-    omega (arith, c.requires.3, place_room (four_at_word c.args.t.now c.args.f) c.args.j (place_of_words c.place_words-p.result) c.place_words-p.ensures c.if-p-ne1.false)
+    omega (arith, c.requires.2, place_room (four_at_word c.args.t.now c.args.f) c.args.j (place_of_words c.place_words-p.result) c.place_words-p.ensures c.if-p-ne1.false)
 
 pub returns : goal.returns
 returns c =

@@ -9,17 +9,16 @@ use Rattle.checkpoint_write.proofs.Rows.{row_room, row_within, row_turn, row_com
 use Rattle.checkpoint_write.proofs.connections.put_with_no_call.Goals as goal
 
 pub loop-k-init : goal.loop-k-init
-loop-k-init c = (omega arith, none _ _)
+loop-k-init c = none _ _
 
 pub put_four-at-requires : goal.put_four-at-requires
 put_four-at-requires c =
     let t = table_of c.args.t.now in
     let k = c.loop-k.k in
     let listed = ap (λ n. ltb k n) c.listed-n.ensures in
-    let a = c.customer_four.ensures.0 in (
-      c.customer_four.ensures.1,
+    let a = c.customer_four.ensures in (
       λ h. alike_fits _ (customer_four (customer_at t k)) a (customer_fits t c.requires.0 k (omega arith) (sym listed ∙ h)),
-      rw (four_bytes _ _ _ (customer_four (customer_at t k)) listed a) (row_room (standalone_at t) _ _ 8 (omega arith) c.requires.1 c.loop-k.invariant.1),
+      rw (four_bytes _ _ _ (customer_four (customer_at t k)) listed a) (row_room (standalone_at t) _ _ 8 (omega arith) c.requires.1 c.loop-k.invariant),
     )
 
 pub overflow_add-at : goal.overflow_add-at
@@ -27,16 +26,16 @@ overflow_add-at c =
     let t = table_of c.args.t.now in
     let k = c.loop-k.k in
     let listed = ap (λ n. ltb k n) c.listed-n.ensures in
-    let w = rw (four_bytes _ _ _ (customer_four (customer_at t k)) listed c.customer_four.ensures.0) at c.put_four-at.ensures in
-    omega (arith, row_within (standalone_at t) _ _ 8 (omega arith) c.requires.1 c.loop-k.invariant.1 w)
+    let w = rw (four_bytes _ _ _ (customer_four (customer_at t k)) listed c.customer_four.ensures) at c.put_four-at.ensures in
+    omega (arith, row_within (standalone_at t) _ _ 8 (omega arith) c.requires.1 c.loop-k.invariant w)
 
 pub loop-k-preserved : goal.loop-k-preserved
 loop-k-preserved c =
     let t = table_of c.args.t.now in
     let k = c.loop-k.k in
     let listed = ap (λ n. ltb k n) c.listed-n.ensures in
-    let w = rw (four_bytes _ _ _ (customer_four (customer_at t k)) listed c.customer_four.ensures.0) at c.put_four-at.ensures in
-    (omega arith, row_turn (standalone_at t) _ _ 8 (omega arith) c.requires.1 c.loop-k.invariant.1 w)
+    let w = rw (four_bytes _ _ _ (customer_four (customer_at t k)) listed c.customer_four.ensures) at c.put_four-at.ensures in
+    row_turn (standalone_at t) _ _ 8 (omega arith) c.requires.1 c.loop-k.invariant w
 
 pub returns : goal.returns
-returns c = row_complete (standalone_at (table_of c.args.t.now)) _ 8 (omega arith) c.loop-k.invariant.1
+returns c = row_complete (standalone_at (table_of c.args.t.now)) _ 8 (omega arith) c.loop-k.invariant

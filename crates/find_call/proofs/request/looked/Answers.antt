@@ -34,10 +34,10 @@ returns c =
     let used = sym p.1 ∙ (both _ _ (not-false _ no)).0 in
     let size = name_size a.msg.now a.q p.3 in
     let long = names_whole ids.long d.name d.size (omega (arith, size, p.4)) (name_room w a.i p.0) (open_size t a.i p.0 p.2 used) (open_zeros t a.i p.0 p.2 used) in
-    let held = alike_held _ (call_four d) c.call_four.ensures.0 in
+    let held = alike_held _ (call_four d) c.call_four.ensures in
     let says =
     the_pair ids d a.used no _ _ _
     (ap₂ (λ (a b : Bool). a && b) (c.is_size.ensures ∙ ap₂ (λ (n m : ℕ). eqb n m) (sym size) (ap (λ h. h.size) c.call_head-c.ensures)) (c.is_named.ensures ∙ ap (λ (n : List ℕ). same_bytes n d.name) p.5) ∙ long)
     (c.is_call-short.ensures ∙ rw c.call_head-c.ensures)
     (c.has_taken.ensures ∙ rw held) in
-    look_changed a.look a.i a.used d ids _ _ _ _ says c.select.ensures
+    look_changed a.look a.i a.used d ids _ _ _ _ says (c.or.ensures ∙ rw c.then_some.ensures)

@@ -1,5 +1,5 @@
 -- `four::match_four` meets its contract: after `j` turns it knows of the first `j` places.
-use Prim.Native.Nat.{◌≤◌, ◌-◌}
+use Prim.Native.Nat.{◌≤◌}
 use mathlib.Core.Path.{◌≡◌}
 use Rattle.lists.specs.Count.{count_if, has}
 use Rattle.lists.specs.Below.{below}
@@ -12,8 +12,5 @@ use Rattle.find_connection.proofs.four.match_four.Given as goal
 
 abbrev pub invariant-loop-j : goal.invariant-loop-j
 invariant-loop-j l =
-    (l.j ≤ 4) × (l.four ≤ l.j) × (l.held ≡ has (is_lsp (lsp_of l.x.lsp)) (below (held_place (four_at_word l.t l.f)) l.j))
+    (l.four ≤ l.j) × (l.held ≡ has (is_lsp (lsp_of l.x.lsp)) (below (held_place (four_at_word l.t l.f)) l.j))
     × (l.four ≡ count_if (same_four (held_by l.x)) (below (held_place (four_at_word l.t l.f)) l.j))
-
-abbrev pub decreases-loop-j : goal.decreases-loop-j
-decreases-loop-j l = 4 - l.j

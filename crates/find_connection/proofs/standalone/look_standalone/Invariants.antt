@@ -1,5 +1,5 @@
 -- `standalone::look_standalone` meets its contract: after `k` turns it knows of the first `k` customers.
-use Prim.Native.Nat.{◌≤◌, ◌-◌, ◌*◌}
+use Prim.Native.Nat.{◌≤◌, ◌*◌}
 use Rattle.table.specs.Lists.{standalone_at}
 use Rattle.table.specs.Words.{table_of}
 use Rattle.spec_calls.specs.PathRules.{held_by}
@@ -8,7 +8,4 @@ use Rattle.find_connection.proofs.standalone.look_standalone.Given as goal
 
 abbrev pub invariant-loop-k : goal.invariant-loop-k
 invariant-loop-k l =
-    (l.k ≤ 8) × (l.four ≤ 4 * l.k) × Looked (standalone_at (table_of l.t)) (held_by l.x) l.k l.other l.held l.four
-
-abbrev pub decreases-loop-k : goal.decreases-loop-k
-decreases-loop-k l = 8 - l.k
+    (l.four ≤ 4 * l.k) × Looked (standalone_at (table_of l.t)) (held_by l.x) l.k l.other l.held l.four

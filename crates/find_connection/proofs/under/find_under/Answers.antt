@@ -1,37 +1,27 @@
-use native.Mathlib.Omega.{arith}
-use mathlib.Core.Path.{◌≡◌, sym, ◌∙◌}
-use Rattle.lists.proofs.Below.{has_list_if}
+-- `under::find_under` meets its contract.
+use Rattle.std.proofs.Common.{sym, refl, ◌∙◌, rules, arith}
+use Rattle.std.proofs.lemmas.Iterator.{YieldsList-from_range}
+use Rattle.std.proofs.lemmas.Iterator.Search.{find_from_yields_List}
+use Rattle.std.proofs.lemmas.Iterator.Adapters.{option_map_id}
+use Rattle.lists.specs.Count.{has}
 use Rattle.table.specs.Total.{slots}
-use Rattle.table.specs.Word.{is_used}
-use Rattle.table.specs.Lists.{call_at, call_four, held_in}
+use Rattle.table.specs.Lists.{held_at}
 use Rattle.table.specs.Rules.{is_lsp}
 use Rattle.table.specs.Words.{table_of}
-use Rattle.table.proofs.Slots.{held_free}
-use Rattle.table_words.proofs.Alike.{alike_held}
+use Rattle.table.proofs.Slots.{held_rest, held_free}
+use Rattle.lists.proofs.Search.{place_rest}
+use Rattle.spec_changes.proofs.Firsts.{find_place}
 use Rattle.spec_calls.specs.PathRules.{lsp_of}
 use Rattle.find_connection.specs.Looks.{under_found_of}
-use Rattle.find_connection.proofs.Rows.{sought_none, sought_turn, sought_rest}
 use Rattle.find_connection.proofs.under.find_under.Goals as goal
-
-pub loop-i-init : goal.loop-i-init
-loop-i-init c = (omega arith, sought_none _ _)
-
-pub loop-i-preserved : goal.loop-i-preserved
-loop-i-preserved c =
-    let t = table_of c.args.t.now in
-    let x = lsp_of c.args.x in
-    let i = c.loop-i.i in
-    let used = c.is_used-used.ensures in
-    let four = call_four (call_at t i) in
-    let e = rw (used, alike_held _ four c.call_four.ensures.0) at c.holds-here.ensures in
-    (omega arith, sought_turn _ _ _ c.loop-i.invariant.1 (e ∙ sym (has_list_if (is_lsp x) (is_used t.occupied i) (held_in four))) c.select-at.ensures)
 
 pub returns : goal.returns
 unfolding under_found_of
 returns c =
     let t = table_of c.args.t.now in
-    let n = c.used_below-n in
-    let e : c.loop-i.i ≡ n.result = omega arith in
-    let free = held_free t _ n.ensures.1 in
-    let k = sought_rest _ _ slots n.ensures.0 free (rw e at c.loop-i.invariant.1) in
-    rw (k.has, k.place)
+    let f = held_at t in
+    let p = is_lsp (lsp_of c.args.x) in
+    let n = c.used_below in
+    sym (option_map_id _) ∙ find_from_yields_List (λ k. has p (f k)) _ _ c.find.result c.find.ensures.ran (YieldsList-from_range 0 n.result n.result refl (omega arith)) (λ x b q k. search rules)
+    ∙ find_place f p (λ i. has p (f i)) (λ i. refl) n.result
+    ∙ rw (held_rest t n.result n.ensures.0 n.ensures.1, place_rest f p n.result slots n.ensures.0 (held_free t n.result n.ensures.1))

@@ -18,7 +18,7 @@ returns-then-not-used-x c =
     let d = call_at (table_of a.t.now) a.i in
     let x = held_by a.x in
     let four = four_at_word a.t.now c.call_four-f.result in
-    let same = c.call_four-f.ensures.0 in
+    let same = c.call_four-f.ensures in
     let none = rw (alike_held four (call_four d) same) at (match_none x four a.used (ap not c.if-not-used-x.true)) in
     (look_kept a.look a.i a.used d x none (named_none x d a.used (rw same.sender at (ap not c.if-not-used-x.true))), omega arith)
 
@@ -27,6 +27,6 @@ returns c =
     let a = c.args in
     let d = call_at (table_of a.t.now) a.i in
     let x = held_by a.x in
-    let says = rw (alike_held _ (call_four d) c.call_four-f.ensures.0) at c.match_four-m.ensures in
+    let says = rw (alike_held _ (call_four d) c.call_four-f.ensures) at c.match_four-m.ensures in
     let used = (both a.used _ (c.if-not-used-x.false)).0 in
-    (look_changed a.look a.i a.used d x _ _ _ _ _ (rw used says) (rw used c.is_named-here.ensures) c.select.ensures, omega (arith, says.3))
+    (look_changed a.look a.i a.used d x _ _ _ _ _ (rw used says) (rw used c.is_named-here.ensures) (rw c.then_some.ensures at c.or.ensures), omega (arith, says.3))

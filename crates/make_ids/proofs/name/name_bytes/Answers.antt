@@ -7,19 +7,19 @@ use Rattle.make_ids.proofs.Words.{byte_at, name_each}
 use Rattle.make_ids.proofs.name.name_bytes.Goals as goal
 
 pub loop-k-init : goal.loop-k-init
-loop-k-init c = (omega arith, fill_none _ _ 32 0 refl)
+loop-k-init c = fill_none _ _ 32 0 refl
 
 pub bounds-name-k : goal.bounds-name-k
-bounds-name-k c = omega (arith, ap length c.loop-k.invariant.1 ∙ length_each _ 32)
+bounds-name-k c = omega (arith, ap length c.loop-k.invariant ∙ length_each _ 32)
 
 pub loop-k-preserved : goal.loop-k-preserved
 loop-k-preserved c =
     let l = c.loop-k in
-    (omega arith, fill_turn _ _ 32 l.k _ _ (omega arith) l.invariant.1 c.word_byte.ensures)
+    fill_turn _ _ 32 l.k _ _ (omega arith) l.invariant c.byte_of.ensures
 
 pub returns : goal.returns
 returns c =
     let l = c.loop-k in
     let e : l.k ≡ 32 = omega arith in
     let w = c.args.words.now in
-    rw e at l.invariant.1 ∙ fill_all (byte_at w) _ 32 ∙ name_each w
+    rw e at l.invariant ∙ fill_all (byte_at w) _ 32 ∙ name_each w

@@ -9,4 +9,4 @@ returns-then-n-lt8 c = simp (lt-ltb _ _ c.if-n-lt8.true)
 
 pub returns : goal.returns
 unfolding bad_message_length
-returns c = simp (le-ltb _ _ c.if-n-lt8.false, c.get16-len.ensures)
+returns c = simp (le-ltb _ _ c.if-n-lt8.false, c.from-len.ensures, c.get16.ensures)

@@ -31,4 +31,4 @@ bounds-s-1 c = omega (arith, good_message_length _ (sym c.bad_message_length.ens
 pub returns : goal.returns
 unfolding header_of
 returns c =
-    simp (sym c.bad_message_length.ensures ∙ c.if-bad_message_length.false, eq-eqb _ _ c.if-s-ne1.false, sym c.checksum_holds.ensures ∙ c.if-not-checksum_holds.false, c.type_of.ensures)
+    simp (sym c.bad_message_length.ensures ∙ c.if-bad_message_length.false, eq-eqb _ _ c.if-s-ne1.false, sym c.checksum_holds.ensures ∙ c.if-not-checksum_holds.false, c.try_from.ensures)

@@ -7,4 +7,4 @@ use Rattle.messages.proofs.read.long_size.Goals as goal
 pub returns : goal.returns
 returns c =
     let a = c.args in
-    c.unpadded.ensures ∙ ap (unpadded a.s.now (a.attribute + 8)) c.to_usize-name.ensures
+    c.unpadded.ensures ∙ ap (unpadded a.s.now (a.attribute + 8)) (c.from-name.ensures)

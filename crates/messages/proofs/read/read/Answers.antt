@@ -1,26 +1,26 @@
--- `read::read` meets its contract: each arm is its case of `read_of`, and the walk promises the places of what it has
+-- `read::read` meets its contract: each way out is its case of `read_of`, and the walk promises the places of what it has
 -- seen.
-use mathlib.Core.Path.{sym, ap, ◌∙◌}
+use Rattle.std.proofs.Common.{rules, sym, ap, ◌∙◌}
 use Rattle.objects.proofs.Placed.{walk_placed}
 use Rattle.messages.specs.Read.{walked_read, header_read, read_of}
 use Rattle.messages.proofs.read.read.Goals as goal
 
+pub returns-in_err-mtype : goal.returns-in_err-mtype
+unfolding read_of
+returns-in_err-mtype c =
+    let e = ap (header_read c.args.s.now) (sym c.read_header.ensures ∙ c.in_err-mtype.was) in
+    rw e (search rules)
+
+pub returns-in_err-v : goal.returns-in_err-v
+unfolding read_of
+returns-in_err-v c =
+    let h = sym c.read_header.ensures ∙ c.in_ok-mtype.was in
+    let e = ap (walked_read c.args.s.now c.in_ok-mtype.mtype) (sym c.walk.ensures ∙ c.in_err-v.was) in
+    rw (h, e) (search rules)
+
 pub read_objects-requires : goal.read_objects-requires
-read_objects-requires c = walk_placed _ _ (sym c.walk.ensures ∙ c.in-Finished.is)
+read_objects-requires c = walk_placed _ _ (sym c.walk.ensures ∙ c.in_ok-v.was)
 
-pub returns-in-Bad : goal.returns-in-Bad
+pub returns : goal.returns
 unfolding read_of
-returns-in-Bad c = sym (ap (header_read _) (sym c.read_header.ensures ∙ c.in-Bad.is))
-
-pub returns-in-Stopped : goal.returns-in-Stopped
-unfolding read_of
-returns-in-Stopped c =
-    sym (ap (header_read _) (sym c.read_header.ensures ∙ c.in-Good.is)
-    ∙ ap (walked_read _ _) (sym c.walk.ensures ∙ c.in-Stopped.is))
-
-pub returns-in-Finished : goal.returns-in-Finished
-unfolding read_of
-returns-in-Finished c =
-    c.read_objects.ensures
-    ∙ sym (ap (header_read _) (sym c.read_header.ensures ∙ c.in-Good.is)
-    ∙ ap (walked_read _ _) (sym c.walk.ensures ∙ c.in-Finished.is))
+returns c = rw (sym c.read_header.ensures ∙ c.in_ok-mtype.was, sym c.walk.ensures ∙ c.in_ok-v.was) c.read_objects.ensures

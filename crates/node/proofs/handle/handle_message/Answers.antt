@@ -2,10 +2,10 @@
 use Rattle.node.proofs.handle.handle_message.Goals as goal
 
 pub open-requires : goal.open-requires
-open-requires c = let p = rw c.in-Open.is at c.requires in (p.0, p.1, p.2.0, p.3, p.4)
+open-requires c = let p = rw c.in-Open.is at c.requires in (p.0, p.1, p.3, p.4)
 
 pub close_call-requires : goal.close_call-requires
-close_call-requires c = let p = rw c.in-Close.is at c.requires in (p.0, p.2.0, p.2.1, p.3)
+close_call-requires c = let p = rw c.in-Close.is at c.requires in (p.0, p.2.1, p.3)
 
 pub add_connection-requires : goal.add_connection-requires
 add_connection-requires c = let p = rw c.in-Add.is at c.requires in (p.0, p.1, p.2, p.3)

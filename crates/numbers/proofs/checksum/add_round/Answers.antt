@@ -1,5 +1,5 @@
 -- `checksum::add_round` meets its contract: a sum that wrapped is smaller than either number, and has lost 65,536.
-use Rattle.std.proofs.Common.{◌≡◌, ℕ, ◌+◌, ◌%◌, ◌<◌, ap, ◌∙◌, arith}
+use Rattle.std.proofs.Common.{◌≡◌, ℕ, ◌+◌, ◌%◌, ◌<◌, refl, ap, ◌∙◌, arith}
 use Rattle.numbers.specs.Checksum.{all_round}
 use Rattle.numbers.proofs.checksum.add_round.Goals as goal
 
@@ -13,7 +13,7 @@ wrapped a b r ha hb e h = let s : r + 65536 ≡ a + b = omega arith in one_round
 
 pub returns-then-sum-a : goal.returns-then-sum-a
 returns-then-sum-a c =
-    wrapped c.args.a c.args.b _ c.ranges.a.fits c.ranges.b.fits c.wrapping_add_u16-sum.ensures.value c.if-sum-a.true
+    wrapped c.args.a c.args.b _ c.ranges.a.fits c.ranges.b.fits refl c.if-sum-a.true
 
 pub returns : goal.returns
 unfolding all_round

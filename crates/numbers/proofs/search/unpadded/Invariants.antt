@@ -1,11 +1,8 @@
 -- `search::unpadded` meets its contract: what has been passed from the end on is zeros, so that the rest counts as the
 -- whole does.
-use Rattle.std.proofs.Common.{◌≡◌, ◌≤◌}
+use Rattle.std.proofs.Common.{◌≡◌}
 use Rattle.numbers.specs.Search.{unpadded}
 use Rattle.numbers.proofs.search.unpadded.Given as goal
 
 abbrev pub invariant-loop-k : goal.invariant-loop-k
-invariant-loop-k l = (l.k ≤ l.n) × (unpadded l.s l.at l.k ≡ unpadded l.s l.at l.n)
-
-abbrev pub decreases-loop-k : goal.decreases-loop-k
-decreases-loop-k l = l.k
+invariant-loop-k l = unpadded l.s l.at l.k ≡ unpadded l.s l.at l.n

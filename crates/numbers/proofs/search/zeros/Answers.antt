@@ -22,13 +22,13 @@ unfolding zeros_at
 all s end i h = rw (none_left end i h)
 
 pub loop-i-init : goal.loop-i-init
-loop-i-init c = (omega arith, rw add-sub_cancel_left)
+loop-i-init c = rw add-sub_cancel_left
 
 pub returns-then-s-i-ne0 : goal.returns-then-s-i-ne0
-returns-then-s-i-ne0 c = sym (sym c.loop-i.invariant.1 ∙ hit _ _ _ c.loop-i-test.true c.if-s-i-ne0.true)
+returns-then-s-i-ne0 c = sym (sym c.loop-i.invariant ∙ hit _ _ _ c.loop-i-test.true c.if-s-i-ne0.true)
 
 pub loop-i-preserved : goal.loop-i-preserved
-loop-i-preserved c = (omega arith, sym (miss _ _ _ c.loop-i-test.true c.if-s-i-ne0.false) ∙ c.loop-i.invariant.1)
+loop-i-preserved c = sym (miss _ _ _ c.loop-i-test.true c.if-s-i-ne0.false) ∙ c.loop-i.invariant
 
 pub returns : goal.returns
-returns c = sym (all _ _ _ c.loop-i-test.false) ∙ c.loop-i.invariant.1
+returns c = sym (all _ _ _ c.loop-i-test.false) ∙ c.loop-i.invariant

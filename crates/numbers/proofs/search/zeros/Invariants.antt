@@ -1,10 +1,7 @@
 -- `search::zeros` meets its contract: what is left to test answers as the whole part does.
-use Rattle.std.proofs.Common.{◌≡◌, ◌-◌, ◌≤◌}
+use Rattle.std.proofs.Common.{◌≡◌, ◌+◌, ◌-◌}
 use Rattle.numbers.specs.Search.{zeros_at}
 use Rattle.numbers.proofs.search.zeros.Given as goal
 
 abbrev pub invariant-loop-i : goal.invariant-loop-i
-invariant-loop-i l = (l.i ≤ l.end) × (zeros_at l.s l.i (l.end - l.i) ≡ zeros_at l.s l.at l.n)
-
-abbrev pub decreases-loop-i : goal.decreases-loop-i
-decreases-loop-i l = l.end - l.i
+invariant-loop-i l = zeros_at l.s l.i (l.at + l.n - l.i) ≡ zeros_at l.s l.at l.n

@@ -17,22 +17,14 @@ returns-then-o-lt8 c =
     let a = c.args in
     simp (eq-eqb _ _ c.if-o-ne7.false, ne_eqb a.o.len (8 + rounded_up_to4 (name_length a.s.now a.o.at)) (omega arith))
 
-pub overflow_cast-name : goal.overflow_cast-name
-overflow_cast-name c = omega (arith, c.shared_slice_known-2-1.given (c.args.o.at + 7))
-
-pub overflow_add-name-2 : goal.overflow_add-name-2
-overflow_add-name-2 c = omega (arith, c.shared_slice_known-2-1.given (c.args.o.at + 7))
-
-pub overflow_mul-name : goal.overflow_mul-name
-overflow_mul-name c = omega (arith, c.shared_slice_known-2-1.given (c.args.o.at + 7))
-
-pub overflow_add-name-3 : goal.overflow_add-name-3
-overflow_add-name-3 c = omega (arith, c.shared_slice_known-2-1.given (c.args.o.at + 7))
-
 pub returns-then-o-name : goal.returns-then-o-name
 unfolding attribute_formed has_form
-returns-then-o-name c = simp (eq-eqb _ _ c.if-o-ne7.false, ne_eqb _ _ c.if-o-name.true)
+returns-then-o-name c =
+    let other = rw c.from-name.ensures at c.if-o-name.true in
+    simp (eq-eqb _ _ c.if-o-ne7.false, ne_eqb _ _ other)
 
 pub returns : goal.returns
 unfolding attribute_formed has_form
-returns c = simp (eq-eqb _ _ c.if-o-ne7.false, eq-eqb _ _ c.if-o-name.false, c.zeros.ensures)
+returns c =
+    let same = rw c.from-name.ensures at c.if-o-name.false in
+    simp (c.zeros.ensures, c.from-name.ensures, eq-eqb _ _ c.if-o-ne7.false, eq-eqb _ _ same)

@@ -9,4 +9,4 @@ returns-then-left-lt4 c = simp (lt-ltb _ _ c.if-left-lt4.true)
 
 pub returns : goal.returns
 unfolding bad_length
-returns c = simp (le-ltb _ _ c.if-left-lt4.false, c.get16-len.ensures)
+returns c = simp (le-ltb _ _ c.if-left-lt4.false, c.from-len.ensures, c.get16.ensures)

@@ -1,39 +1,36 @@
--- `object::is_formed` meets its contract: at each return the tests passed say which row of `formed` it is.
-use borrow.Author.Tests.{eq-eqb, ne_eqb}
+-- `object::is_formed` meets its contract: each arm is its row of `formed`.
+use Rattle.std.proofs.Common.{ℕ, ◌≡◌, false, eqb, arith, ne_eqb}
+use Rattle.objects.specs.Classes.{session, error_spec, sender_template, message_id, admin_status, session_attribute}
 use Rattle.objects.specs.Forms.{formed}
 use Rattle.objects.proofs.object.is_formed.Goals as goal
 
-pub returns-then-o-eq-SESSION : goal.returns-then-o-eq-SESSION
+pub returns-in-1 : goal.returns-in-1
 unfolding formed
-returns-then-o-eq-SESSION c =
-    simp (c.has_form.ensures, eq-eqb _ _ c.if-o-eq-SESSION.true)
+returns-in-1 c = rw (c.has_form.ensures, c.in-1.is)
 
-pub returns-then-o-eq-ERROR_SPEC : goal.returns-then-o-eq-ERROR_SPEC
+pub returns-in-6 : goal.returns-in-6
 unfolding formed
-returns-then-o-eq-ERROR_SPEC c =
-    simp (c.has_form-then-o-eq-ERROR_SPEC.ensures, eq-eqb _ _ c.if-o-eq-ERROR_SPEC.true, ne_eqb _ _ c.if-o-eq-SESSION.false)
+returns-in-6 c = rw (c.has_form-in-6.ensures, c.in-6.is)
 
-pub returns-then-o-eq-SENDER_TEMPLATE : goal.returns-then-o-eq-SENDER_TEMPLATE
+pub returns-in-11 : goal.returns-in-11
 unfolding formed
-returns-then-o-eq-SENDER_TEMPLATE c =
-    simp (c.has_form-then-o-eq-SENDER_TEMPLATE.ensures, eq-eqb _ _ c.if-o-eq-SENDER_TEMPLATE.true, ne_eqb _ _ c.if-o-eq-ERROR_SPEC.false, ne_eqb _ _ c.if-o-eq-SESSION.false)
+returns-in-11 c = rw (c.has_form-in-11.ensures, c.in-11.is)
 
-pub returns-then-o-eq-MESSAGE_ID : goal.returns-then-o-eq-MESSAGE_ID
+pub returns-in-23 : goal.returns-in-23
 unfolding formed
-returns-then-o-eq-MESSAGE_ID c =
-    simp (c.has_form-then-o-eq-MESSAGE_ID.ensures, eq-eqb _ _ c.if-o-eq-MESSAGE_ID.true, ne_eqb _ _ c.if-o-eq-SENDER_TEMPLATE.false, ne_eqb _ _ c.if-o-eq-ERROR_SPEC.false, ne_eqb _ _ c.if-o-eq-SESSION.false)
+returns-in-23 c = rw (c.has_form-in-23.ensures, c.in-23.is)
 
-pub returns-then-o-eq-ADMIN_STATUS : goal.returns-then-o-eq-ADMIN_STATUS
+pub returns-in-196 : goal.returns-in-196
 unfolding formed
-returns-then-o-eq-ADMIN_STATUS c =
-    simp (c.has_form-then-o-eq-ADMIN_STATUS.ensures, eq-eqb _ _ c.if-o-eq-ADMIN_STATUS.true, ne_eqb _ _ c.if-o-eq-MESSAGE_ID.false, ne_eqb _ _ c.if-o-eq-SENDER_TEMPLATE.false, ne_eqb _ _ c.if-o-eq-ERROR_SPEC.false, ne_eqb _ _ c.if-o-eq-SESSION.false)
+returns-in-196 c = rw (c.has_form-in-196.ensures, c.in-196.is)
 
-pub returns-then-o-eq-SESSION_ATTRIBUTE : goal.returns-then-o-eq-SESSION_ATTRIBUTE
+pub returns-in-207 : goal.returns-in-207
 unfolding formed
-returns-then-o-eq-SESSION_ATTRIBUTE c =
-    simp (c.attribute_formed.ensures, eq-eqb _ _ c.if-o-eq-SESSION_ATTRIBUTE.true, ne_eqb _ _ c.if-o-eq-ADMIN_STATUS.false, ne_eqb _ _ c.if-o-eq-MESSAGE_ID.false, ne_eqb _ _ c.if-o-eq-SENDER_TEMPLATE.false, ne_eqb _ _ c.if-o-eq-ERROR_SPEC.false, ne_eqb _ _ c.if-o-eq-SESSION.false)
+returns-in-207 c = rw (c.attribute_formed.ensures, c.in-207.is)
 
-pub returns : goal.returns
+pub returns-in_default : goal.returns-in_default
 unfolding formed
-returns c =
-    simp (ne_eqb _ _ c.if-o-eq-SESSION_ATTRIBUTE.false, ne_eqb _ _ c.if-o-eq-ADMIN_STATUS.false, ne_eqb _ _ c.if-o-eq-MESSAGE_ID.false, ne_eqb _ _ c.if-o-eq-SENDER_TEMPLATE.false, ne_eqb _ _ c.if-o-eq-ERROR_SPEC.false, ne_eqb _ _ c.if-o-eq-SESSION.false)
+returns-in_default c =
+    let k = c.args.o.class in
+    let other : (class : ℕ) → (k ≡ class → ⊥) → eqb k class ≡ false = ne_eqb k in
+    simp (other session (λ e. omega arith), other error_spec (λ e. omega arith), other sender_template (λ e. omega arith), other message_id (λ e. omega arith), other admin_status (λ e. omega arith), other session_attribute (λ e. omega arith))

@@ -11,7 +11,7 @@ use Rattle.objects.specs.Item.{object_at, bad_length, item_at}
 use Rattle.objects.specs.Forms.{formed, misformed}
 use Rattle.objects.specs.Classes.{session, error_spec, sender_template, message_id, admin_status, session_attribute, read_classes, passed_over, refused_class}
 use Rattle.numbers.specs.Search.{is_in}
-use Rattle.objects.specs.declared.object.Item.TheVariants.{Faulty, Found}
+use Rattle.std.specs.Prelude.{Some, Ok, Err}
 use Rattle.objects.specs.declared.object.Object.{Object}
 use Rattle.objects.specs.declared.fault.Fault.TheVariants.{ObjectClass, ObjectForm}
 use Rattle.objects.proofs.Steps.{good_length}
@@ -37,7 +37,7 @@ formed_read s o e =
 -- what stands at a place with a good length, by the three tests that are left
 judged : (s : List ℕ) (at : ℕ) (o : Object) (p f r : Bool) → at < length s → bad_length s at ≡ false → o ≡ object_at s at
     → passed_over o.class ≡ p → formed s o ≡ f → is_in o.class read_classes ≡ r
-    → item_at s at ≡ cond (not p && not r) (Faulty ObjectClass) (cond (not p && not f) (Faulty ObjectForm) (Found o))
+    → item_at s at ≡ cond (not p && not r) (Err ObjectClass) (cond (not p && not f) (Err ObjectForm) (Ok (Some o)))
 unfolding item_at refused_class misformed
 judged s at o p f r h g e x y z =
     let x' : passed_over (object_at s at).class ≡ p = rw e at x in

@@ -2,4 +2,4 @@
 use Rattle.objects.proofs.object.object_at.Goals as goal
 
 pub returns : goal.returns
-returns c = rw c.get16.ensures
+returns c = rw (c.from.ensures, c.get16.ensures)

@@ -9,4 +9,4 @@ returns-then-s-at c = simp (lt-leb _ _ c.if-s-at.true)
 
 pub returns : goal.returns
 unfolding is_like
-returns c = simp (le-leb _ _ c.if-s-at.false, c.get16.ensures)
+returns c = simp (le-leb _ _ c.if-s-at.false, c.from.ensures, c.get16.ensures)

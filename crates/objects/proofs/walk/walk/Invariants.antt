@@ -5,8 +5,8 @@ use lib.ListN.{length}
 use Rattle.objects.proofs.Steps.{Walking}
 use Rattle.objects.proofs.walk.walk.Given as goal
 
-abbrev pub invariant-loop-fault : goal.invariant-loop-fault
-invariant-loop-fault l = Walking l.s l.seen l.at
+abbrev pub invariant-loop-o : goal.invariant-loop-o
+invariant-loop-o l = Walking l.s l.seen l.at
 
-abbrev pub decreases-loop-fault : goal.decreases-loop-fault
-decreases-loop-fault l = length l.s - l.at
+abbrev pub decreases-loop-o : goal.decreases-loop-o
+decreases-loop-o l = length l.s - l.at

@@ -1,12 +1,10 @@
 -- `notify::put_notify_before_checksum` meets its contract: its writers follow one another, and the header says their
 -- length.
-use Prim.Native.Nat.{ℕ, ◌+◌}
+use Prim.Native.Nat.{◌+◌}
 use native.Mathlib.Omega.{arith}
-use mathlib.Core.Path.{◌≡◌, refl, ap, ◌∙◌}
-use mathlib.Core.List.{List, ◌++◌}
-use lib.ListN.{length, take}
-use lib.Seq.{take_all}
-use Rattle.numbers.specs.Buffer.{at_front}
+use mathlib.Core.Path.{refl}
+use mathlib.Core.List.{◌++◌}
+use lib.ListN.{length}
 use Rattle.objects.specs.Part.{part_of}
 use Rattle.reply_objects.specs.Objects.{admin_status_bytes}
 use Rattle.reply_objects.specs.Header.{header_bytes}
@@ -15,10 +13,6 @@ use Rattle.replies.specs.Messages.{notify_front}
 use Rattle.replies.proofs.Lengths.{part_length, notify_with_length}
 use Rattle.replies.proofs.Written.{complete}
 use Rattle.replies.proofs.notify.put_notify_before_checksum.Goals as goal
-
--- a slice that is copied whole
-whole : {xs : List ℕ} {r n : ℕ} (s l : List ℕ) → length s ≡ n → (r ≡ n) × (xs ≡ at_front (take n s) l) → (r ≡ n) × (xs ≡ at_front s l)
-whole {n = n} s l e (q, p) = (q, p ∙ ap (λ (t : List ℕ). at_front t l) (take_all n s (omega arith)))
 
 pub returns : goal.returns
 returns c =
@@ -31,8 +25,8 @@ returns c =
     let fits = c.requires in
     let len = 80 + length attribute in
     let w1 = begun (header_bytes 21 len ++ notify_front n) refl c.put_notify_front-a.ensures in
-    let w2 = more session w1 fits.session_size (omega arith) (whole session _ fits.session_size c.put_received.ensures) in
+    let w2 = more session w1 refl (omega arith) c.put_bytes.ensures in
     let w3 = more status w2 refl (omega arith) c.put_admin_status.ensures in
-    let w4 = more attribute w3 refl (omega arith) (whole attribute _ refl c.put_received-2.ensures) in
-    let w5 = more template w4 (part_length msg n.template fits.template) (omega arith) c.put_received-3.ensures in
+    let w4 = more attribute w3 refl (omega arith) c.put_bytes-2.ensures in
+    let w5 = more template w4 (part_length msg n.template fits.template) (omega arith) c.put_received.ensures in
     complete 21 len (notify_front n ++ session ++ status ++ attribute ++ template) w5 (notify_with_length fits)

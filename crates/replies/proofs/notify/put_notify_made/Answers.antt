@@ -1,10 +1,10 @@
 -- `notify::put_notify_made` meets its contract: the two arrays that it hands on hold SESSION and SESSION_ATTRIBUTE with
 -- the call's IDs.
-use Prim.Native.Nat.{ℕ, ◌≤◌}
+use Prim.Native.Nat.{ℕ}
 use native.Mathlib.Omega.{arith}
 use mathlib.Core.Path.{◌≡◌, refl, ap, sym, ◌∙◌}
 use mathlib.Core.List.{List, ◌++◌, append-nil}
-use lib.ListN.{length, take, length-take, drop_of_length-le}
+use lib.ListN.{length, take, drop_of_length-le}
 use lib.Seq.{length-take-le}
 use Rattle.numbers.specs.Buffer.{at_front}
 use Rattle.numbers.proofs.Buffer.{front_taken}
@@ -40,16 +40,15 @@ slice_bounds-put_notify_with-end-2 c = sym (length-take-le _ _ (omega arith))
 pub put_notify_with-requires : goal.put_notify_with-requires
 put_notify_with-requires c =
     let a = c.args in
-    let name = take a.size a.name.now in
-    let size : length name ≤ 32 = simp length-take (omega arith) in
+    let name = a.name.now in
     let attribute = c.put_attribute_with-len.ensures in
-    let arrays = held a.call (take a.size a.name.now) _ _ c.requires.0 refl c.put_session_with.ensures (attribute.1, attribute.2) in
-    rw (arrays.0, arrays.1) (made_fit a.call name c.requires.0 size)
+    let arrays = held a.call a.name.now _ _ c.requires.0 refl c.put_session_with.ensures (attribute.1, attribute.2) in
+    rw (arrays.0, arrays.1) (made_fit a.call name c.requires.0 c.requires.1)
 
 pub returns : goal.returns
 unfolding notify_made_bytes
 returns c =
     let a = c.args in
     let attribute = c.put_attribute_with-len.ensures in
-    let arrays = held a.call (take a.size a.name.now) _ _ c.requires.0 refl c.put_session_with.ensures (attribute.1, attribute.2) in
+    let arrays = held a.call a.name.now _ _ c.requires.0 refl c.put_session_with.ensures (attribute.1, attribute.2) in
     lent a.msg.now a.n a.reply.now arrays.0 arrays.1 c.put_notify_with.ensures

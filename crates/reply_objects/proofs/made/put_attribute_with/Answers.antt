@@ -2,9 +2,8 @@
 -- another.
 use Prim.Native.Nat.{◌-◌}
 use native.Mathlib.Omega.{arith}
-use mathlib.Core.Path.{◌≡◌, ap, ◌∙◌}
+use mathlib.Core.Path.{refl, ap, ◌∙◌}
 use lib.ListN.{length, take, replicate, length-replicate}
-use lib.Seq.{length-take-le}
 use Rattle.objects.specs.Forms.{rounded_up_to4}
 use Rattle.objects.specs.Part.{part_of}
 use Rattle.reply_objects.specs.Objects.{attribute_front}
@@ -17,13 +16,13 @@ pub returns : goal.returns
 returns c =
     let a = c.args in
     let received = part_of a.msg.now a.p in
-    let front = attribute_front received a.size in
-    let name = take a.size a.name.now in
-    let padding = rounded_up_to4 a.size - a.size in
-    let size : length name ≡ a.size = length-take-le _ _ (omega arith) in
+    let name = a.name.now in
+    let size = length name in
+    let padding = rounded_up_to4 size - size in
     let n = part_length a.msg.now a.p c.requires.0 in
-    let w1 = begun front (attribute_front_length received a.size (omega arith)) c.put_attribute_front-a.ensures in
-    let w2 = more name w1 size (omega arith) c.put_received.ensures in
+    let w1 = begun (attribute_front received size) (attribute_front_length received size (omega arith)) c.put_attribute_front-a.ensures in
+    let w2 = more name w1 refl (omega arith) c.put_bytes.ensures in
     let zeros = zeros_taken padding 3 (omega arith) in
-    let w3 = more (take padding (replicate 3 0)) w2 (ap length zeros ∙ length-replicate padding 0) (omega arith) c.put_received-2.ensures in
-    (omega (arith, w3.counted), omega (arith, w3.counted, attribute_with_length received name (omega arith)), rw (size, ← zeros) w3.is)
+    let end = ap length zeros ∙ length-replicate padding 0 in
+    let w3 = more (take padding (replicate 3 0)) w2 refl (omega (arith, end)) c.put_bytes-2.ensures in
+    (omega (arith, w3.counted, end), omega (arith, w3.counted, end, attribute_with_length received name (omega arith)), rw (← zeros) w3.is)

@@ -1,6 +1,6 @@
 -- `names::ends_at` meets its contract: of the words passed, the bytes past the name are zero, and one from its last byte
 -- on is not.
-use Prim.Native.Nat.{◌*◌, ◌≤◌, ◌-◌}
+use Prim.Native.Nat.{◌*◌, ◌-◌}
 use mathlib.Core.Path.{◌≡◌}
 use mathlib.Core.Bool.{not}
 use Rattle.numbers.specs.Search.{zeros_at}
@@ -10,9 +10,5 @@ use Rattle.rule_zeros.proofs.names.ends_at.Given as goal
 
 abbrev pub invariant-loop-k : goal.invariant-loop-k
 invariant-loop-k l =
-    (l.k ≤ 8)
-    × (l.clear ≡ zeros_at (call_at (table_of l.t) l.i).name l.size (4 * l.k - l.size))
+    (l.clear ≡ zeros_at (call_at (table_of l.t) l.i).name l.size (4 * l.k - l.size))
     × (l.ends ≡ not (zeros_at (call_at (table_of l.t) l.i).name l.last (4 * l.k - l.last)))
-
-abbrev pub decreases-loop-k : goal.decreases-loop-k
-decreases-loop-k l = 8 - l.k

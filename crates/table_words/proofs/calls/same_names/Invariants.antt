@@ -1,5 +1,5 @@
 -- `calls::same_names` meets its contract: the words compared so far are the same.
-use Prim.Native.Nat.{◌+◌, ◌≤◌, ◌-◌}
+use Prim.Native.Nat.{◌+◌}
 use mathlib.Core.Path.{◌≡◌}
 use lib.Dec.{eqb}
 use lib.ListN.{get_or}
@@ -7,7 +7,4 @@ use Rattle.lists.specs.Below.{every_below}
 use Rattle.table_words.proofs.calls.same_names.Given as goal
 
 abbrev pub invariant-loop-k : goal.invariant-loop-k
-invariant-loop-k l = (l.k ≤ 8) × (l.same ≡ every_below (λ k. eqb (get_or l.t (l.b + k) 0) (get_or l.t (l.c + k) 0)) l.k)
-
-abbrev pub decreases-loop-k : goal.decreases-loop-k
-decreases-loop-k l = 8 - l.k
+invariant-loop-k l = l.same ≡ every_below (λ k. eqb (get_or l.t (l.b + k) 0) (get_or l.t (l.c + k) 0)) l.k

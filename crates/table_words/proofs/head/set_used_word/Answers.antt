@@ -5,4 +5,4 @@ use Rattle.table_words.proofs.head.set_used_word.Goals as goal
 
 pub returns : goal.returns
 returns c =
-    used_stored c.args.t.now c.args.k _ _ c.args.word c.sized.ensures c.requires (omega arith)
+    used_stored c.args.t.now c.args.k _ _ c.args.word (omega arith) c.requires (omega arith)

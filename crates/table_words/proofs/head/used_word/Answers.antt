@@ -4,12 +4,4 @@ use Rattle.table.proofs.Cells.{used_at}
 use Rattle.table_words.proofs.head.used_word.Goals as goal
 
 pub returns : goal.returns
-returns c =
-    omega (
-      arith,
-      used_at c.args.t.now c.args.k c.requires,
-      c.word.ensures,
-      c.wide-low.ensures.0,
-      c.word-2.ensures,
-      c.wide-high.ensures.0,
-    )
+returns c = omega (arith, used_at c.args.t.now c.args.k c.requires)

@@ -1,20 +1,14 @@
+use mathlib.Core.Path.{sym, ap, ◌∙◌}
 use Prim.Native.Nat.{ℕ}
-use native.Mathlib.Omega.{arith}
-use mathlib.Core.Path.{◌≡◌, sym, ap, ◌∙◌}
 use lib.Dec.{eqb}
 use Rattle.lists.proofs.Below.{every_none, every_turn}
 use Rattle.table_words.proofs.Zeroed.{joined_zero}
 use Rattle.table_words.proofs.words.zero_words.Goals as goal
 
 pub loop-k-init : goal.loop-k-init
-loop-k-init c = (omega arith, sym (every_none _))
+loop-k-init c = sym (every_none _)
 
 pub loop-k-preserved : goal.loop-k-preserved
 loop-k-preserved c =
     let l = c.loop-k in
-    (omega arith, joined_zero l.joined c.word-joined.result ∙ every_turn _ _ _ _ l.invariant.1 (ap (λ (x : ℕ). eqb x 0) c.word-joined.ensures))
-
-pub returns : goal.returns
-returns c =
-    let e : c.loop-k.k ≡ c.args.n = omega arith in
-    rw e at c.loop-k.invariant.1
+    joined_zero l.joined c.word-joined.result ∙ every_turn _ _ _ _ l.invariant (ap (λ (x : ℕ). eqb x 0) c.word-joined.ensures)

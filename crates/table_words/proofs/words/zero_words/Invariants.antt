@@ -1,5 +1,5 @@
 -- `words::zero_words` meets its contract: the words joined so far are zero where each of them is.
-use Prim.Native.Nat.{◌+◌, ◌≤◌, ◌-◌}
+use Prim.Native.Nat.{◌+◌}
 use mathlib.Core.Path.{◌≡◌}
 use lib.Dec.{eqb}
 use lib.ListN.{get_or}
@@ -7,7 +7,4 @@ use Rattle.lists.specs.Below.{every_below}
 use Rattle.table_words.proofs.words.zero_words.Given as goal
 
 abbrev pub invariant-loop-k : goal.invariant-loop-k
-invariant-loop-k l = (l.k ≤ l.n) × (eqb l.joined 0 ≡ every_below (λ k. eqb (get_or l.t (l.b + k) 0) 0) l.k)
-
-abbrev pub decreases-loop-k : goal.decreases-loop-k
-decreases-loop-k l = l.n - l.k
+invariant-loop-k l = eqb l.joined 0 ≡ every_below (λ k. eqb (get_or l.t (l.b + k) 0) 0) l.k
