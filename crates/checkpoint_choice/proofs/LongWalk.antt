@@ -9,9 +9,9 @@ use mathlib.Core.Path.{◌≡◌, refl, sym, ap, ◌∙◌}
 use mathlib.Core.Logic.{⊎_elim}
 use mathlib.Core.List.{List}
 use mathlib.Core.Bool.{Bool, true, false, not, true≢false}
-use lib.Dec.{ltb}
+use lib.Dec.{eqb, ltb}
 use lib.ListN.{length, get_or, set}
-use borrow.Author.Tests.{eq-eqb, ltb-true, ltb-false}
+use borrow.Author.Tests.{eq-eqb, ne_eqb, ltb-true, ltb-false}
 use Rattle.lists.specs.Chain.{last_below, in_chain, InChains}
 use Rattle.lists.proofs.Below.{every_within, every_at}
 use Rattle.lists.proofs.Tests.{both}
@@ -24,32 +24,32 @@ use Rattle.checkpoint_choice.specs.LongChain.{chain_of, chain_at, LongChains}
 use Rattle.checkpoint_choice.proofs.Mixed.{one_chain}
 
 -- the record of place k is sound
-abbrev pub sound_at : List Bool → ℕ → ℕ → Bool
-sound_at sound n k = get_or sound (n - 1 - k) false
+abbrev pub sound_at : List ℕ → ℕ → ℕ → Bool
+sound_at sound n k = eqb (get_or sound (n - 1 - k) 0) 1
 
-module _ (f : Factors) (s : List ℕ) (sound : List Bool) (heads links : List ℕ) (n k : ℕ) (c : InChains (sound_at sound n) (chain_at f s n) heads links k) where
-  pub chained_sound : (m : ℕ) → get_or sound (n - 1 - k) false ≡ true → m ≡ chain_at f s n k → m < length heads → k < length links
+module _ (f : Factors) (s sound heads links : List ℕ) (n k : ℕ) (c : InChains (sound_at sound n) (chain_at f s n) heads links k) where
+  pub chained_sound : (m : ℕ) → get_or sound (n - 1 - k) 0 ≡ 1 → m ≡ chain_at f s n k → m < length heads → k < length links
       → InChains (sound_at sound n) (chain_at f s n) (set heads m (k + 1)) (set links k (get_or heads m 0)) (k + 1)
   chained_sound m is e inside room =
-      rw (add-one, e) (chain_noted (sound_at sound n) (chain_at f s n) c is (rw e at inside) room)
+      rw (add-one, e) (chain_noted (sound_at sound n) (chain_at f s n) c (eq-eqb (get_or sound (n - 1 - k) 0) 1 is) (rw e at inside) room)
 
-  pub chained_unsound : get_or sound (n - 1 - k) false ≡ false → InChains (sound_at sound n) (chain_at f s n) heads links (k + 1)
-  chained_unsound isnt = rw add-one (chain_passed (sound_at sound n) (chain_at f s n) c isnt)
+  pub chained_unsound : (get_or sound (n - 1 - k) 0 ≡ 1 → ⊥) → InChains (sound_at sound n) (chain_at f s n) heads links (k + 1)
+  chained_unsound isnt = rw add-one (chain_passed (sound_at sound n) (chain_at f s n) c (ne_eqb (get_or sound (n - 1 - k) 0) 1 isnt))
 
 -- ---- the walk
 
 -- the place is in record i's chain
-abbrev in_own : Factors → List ℕ → List Bool → ℕ → ℕ → ℕ → Bool
+abbrev in_own : Factors → List ℕ → List ℕ → ℕ → ℕ → ℕ → Bool
 in_own f s sound n i k = in_chain (sound_at sound n) (chain_at f s n) (chain_of f s i) k
 
 -- it has come to place e - 1 of record i's chain, and has met no better record
-pub record Walked (f : Factors) (s : List ℕ) (sound : List Bool) (named : List ℕ) (n i e : ℕ) : Type 0 where
+pub record Walked (f : Factors) (s sound named : List ℕ) (n i e : ℕ) : Type 0 where
   pub within : e ≤ n
   pub last : e ≡ last_below (in_own f s sound n i) e
   pub none : (k : ℕ) → e ≤ k → k < n → is_better s sound named i (n - 1 - k) ≡ true → ⊥
 
 -- whoever is better is sound and in the chain
-better_in : (f : Factors) (s : List ℕ) (sound : List Bool) (named : List ℕ) (n i k : ℕ) → is_better s sound named i (n - 1 - k) ≡ true → in_own f s sound n i k ≡ true
+better_in : (f : Factors) (s sound named : List ℕ) (n i k : ℕ) → is_better s sound named i (n - 1 - k) ≡ true → in_own f s sound n i k ≡ true
 unfolding is_better
 better_in f s sound named n i k h =
     let b = both (is_ahead sound named i (n - 1 - k)) _ h in
@@ -57,7 +57,7 @@ better_in f s sound named n i k h =
     (eq-eqb (chain_at f s n k) (chain_of f s i)
     (one_chain f (ids_of (call_record s (n - 1 - k)).call) (ids_of (call_record s i).call) b.1))
 
-module _ {f : Factors} {s : List ℕ} {sound : List Bool} {heads links : List ℕ} {n : ℕ} (c : LongChains f s sound heads links n) where
+module _ {f : Factors} {s sound heads links : List ℕ} {n : ℕ} (c : LongChains f s sound heads links n) where
   head_is : (m : ℕ) → m < 1024 → get_or heads m 0 ≡ last_below (in_chain (sound_at sound n) (chain_at f s n) m) n
   head_is m h = c.chains.head m (rw c.room h)
 
@@ -100,10 +100,10 @@ module _ {f : Factors} {s : List ℕ} {sound : List Bool} {heads links : List �
 
 -- ---- what it finds
 
-module _ (s : List ℕ) (sound : List Bool) (named : List ℕ) (n i : ℕ) where
-  pub none_better : {f : Factors} → get_or sound i false ≡ true → Walked f s sound named n i 0 → true ≡ is_best s sound named n i
+module _ (s sound named : List ℕ) (n i : ℕ) where
+  pub none_better : {f : Factors} → get_or sound i 0 ≡ 1 → Walked f s sound named n i 0 → true ≡ is_best s sound named n i
   unfolding is_best
-  none_better alone w = sym (rw alone (every_within _ n (λ j l. worse j l (is_better s sound named i j) refl)))
+  none_better alone w = sym (rw (eq-eqb (get_or sound i 0) 1 alone) (every_within _ n (λ j l. worse j l (is_better s sound named i j) refl)))
     where
       worse : (j : ℕ) → j < n → (d : Bool) → is_better s sound named i j ≡ d → not d ≡ true
       worse j l true q =
@@ -116,9 +116,9 @@ module _ (s : List ℕ) (sound : List Bool) (named : List ℕ) (n i : ℕ) where
   one_better j l b = by (is_best s sound named n i) refl
     where
       by : (d : Bool) → is_best s sound named n i ≡ d → false ≡ d
-      by true q = absurd (true≢false (sym (every_at _ n (both (get_or sound i false) _ q).1 j l) ∙ ap not b))
+      by true q = absurd (true≢false (sym (every_at _ n (both (eqb (get_or sound i 0) 1) _ q).1 j l) ∙ ap not b))
       by false q = refl
 
-  pub not_sound : get_or sound i false ≡ false → false ≡ is_best s sound named n i
+  pub not_sound : (get_or sound i 0 ≡ 1 → ⊥) → false ≡ is_best s sound named n i
   unfolding is_best
-  not_sound d = rw d
+  not_sound d = rw (ne_eqb (get_or sound i 0) 1 d)

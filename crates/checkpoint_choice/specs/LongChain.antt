@@ -1,6 +1,6 @@
 -- Call records in chains by pair and long Call ID: words of contracts only. No rule cites these. Any chains would do for
 -- the claim in which records of one pair and long Call ID stand together.
-use Rattle.std.specs.Prelude.{ℕ, ◌-◌, ◌/◌, ◌≡◌, List, [], ◌∷◌, Bool, false, length, get_or}
+use Rattle.std.specs.Prelude.{ℕ, ◌-◌, ◌/◌, ◌≡◌, List, [], ◌∷◌, eqb, length, get_or}
 use Rattle.lists.specs.Chain.{InChains}
 use Rattle.table.specs.Lists.{Ids, ids_of}
 use Rattle.spec_checkpoint.specs.Layout.{call_record}
@@ -25,6 +25,6 @@ abbrev pub chain_at : Factors → List ℕ → ℕ → ℕ → ℕ
 chain_at f s n k = chain_of f s (n - 1 - k)
 
 -- those of n records that are sound stand in their chains
-pub record LongChains (f : Factors) (s : List ℕ) (sound : List Bool) (heads links : List ℕ) (n : ℕ) : Type 0 where
+pub record LongChains (f : Factors) (s sound heads links : List ℕ) (n : ℕ) : Type 0 where
   pub room : length heads ≡ 1024
-  pub chains : InChains (λ k. get_or sound (n - 1 - k) false) (chain_at f s n) heads links n
+  pub chains : InChains (λ k. eqb (get_or sound (n - 1 - k) 0) 1) (chain_at f s n) heads links n

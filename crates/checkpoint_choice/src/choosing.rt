@@ -1,7 +1,8 @@
 // Which of the calls of one pair and long Call ID is kept. What is asked of each record is computed once, into arrays:
 // a checkpoint has up to 4,095 calls and 65,535 connections. A record is compared with those of its chain alone, where
 // they stand in the checkpoint.
-ghost use Rattle.std.specs.Prelude.{◌≡◌, true, false, ◌+◌, ◌*◌, ◌<◌, ◌≤◌, length, replicate};
+ghost use Rattle.std.specs.Prelude.{◌≡◌, true, ◌+◌, ◌*◌, ◌<◌, ◌≤◌, length, replicate};
+ghost use Rattle.lists.specs.Count.{bit};
 ghost use Rattle.table.specs.Lists.{ids_of};
 ghost use Rattle.table.specs.Rules.{same_long, rules_hold};
 ghost use Rattle.table.specs.Words.{table_of};
@@ -17,14 +18,14 @@ use checkpoint_records::calls::CallRecords;
 use checkpoint_salvage::placing::sound_alone;
 use table::layout::Words;
 
-// Whether each record is sound alone: in a fresh table, which keeps the rules and has no call. The caller lends the
+// 1 for each record that is sound alone: in a fresh table, which keeps the rules and has no call. The caller lends the
 // flags, to save stack: what they hold before does not matter.
-pub fn sound_flags(t: &Words, c: CallRecords, flags: &mut [bool; 4096])
+pub fn sound_flags(t: &Words, c: CallRecords, flags: &mut [u8; 4096])
     requires { (rules_hold (table_of t.now) ≡ true) × ((table_of t.now).occupied ≡ replicate 4 0) }
-    ensures { Filled false (λ j. sound_alone (table_of t.now) (call_record c.entry.bytes.now j)) flags.new c.entry.calls }
+    ensures { Filled (λ j. bit (sound_alone (table_of t.now) (call_record c.entry.bytes.now j))) flags.new c.entry.calls }
 {
     for i in 0..c.calls {
-        flags[i] = sound_alone(t, c.call(i));
+        flags[i] = u8::from(sound_alone(t, c.call(i)));
     }
 }
 
@@ -38,13 +39,13 @@ fn same_long(r: CallRecord, q: CallRecord) -> bool
 
 // Record j is kept rather than record i. Names are compared last.
 #[tactic(auto, unfolding(crate::specs::Ranked::is_better))]
-fn is_better(c: CallRecords, sound: &[bool; 4096], named: &[u16; 4096], i: usize, j: usize) -> bool
+fn is_better(c: CallRecords, sound: &[u8; 4096], named: &[u16; 4096], i: usize, j: usize) -> bool
     requires { (i < c.calls) × (j < c.calls) }
     ensures { result ≡ is_better c.entry.bytes.now sound.now named.now i j }
 {
     let m = named[i];
     let n = named[j];
-    let ahead = sound[j] & ((m < n) | ((m == n) & (j < i)));
+    let ahead = (sound[j] == 1) & ((m < n) | ((m == n) & (j < i)));
     ahead && same_long(c.call(j), c.call(i))
 }
 
@@ -60,6 +61,9 @@ fn long_chain(f: Factors, r: CallRecord) -> usize
     spread(f, r.endpoint(), r.sender(), sum, 0) / 2
 }
 
+// The flag of the records that go into the chains.
+const CHAINED: u8 = 1;
+
 // The records that are sound in chains by pair and long Call ID, the last record first, so that a walk meets the first
 // record first, the one kept of those that are named alike. One that is not sound is never better than another: no walk
 // need pass it. Place k in the chains is for record c.calls - 1 - k. The caller lends heads of zeros, and links: what
@@ -67,7 +71,7 @@ fn long_chain(f: Factors, r: CallRecord) -> usize
 pub fn long_chains(
     c: CallRecords,
     f: Factors,
-    sound: &[bool; 4096],
+    sound: &[u8; 4096],
     heads: &mut [u16; 1024],
     links: &mut [u16; 4096],
 )
@@ -76,8 +80,7 @@ pub fn long_chains(
 {
     for k in 0..c.calls {
         let i = c.calls - 1 - k;
-        let chained = sound[i];
-        if chained {
+        if sound[i] == CHAINED {
             let m = long_chain(f, c.call(i));
             links[k] = heads[m];
             heads[m] = (k + 1) as u16;
@@ -94,14 +97,14 @@ pub fn is_best(
     f: Factors,
     heads: &[u16; 1024],
     links: &[u16; 4096],
-    sound: &[bool; 4096],
+    sound: &[u8; 4096],
     named: &[u16; 4096],
     i: usize,
 ) -> bool
     requires { (i < c.calls) × LongChains f c.bytes.now sound.now heads.now links.now c.calls }
     ensures { result ≡ is_best c.entry.bytes.now sound.now named.now c.entry.calls i }
 {
-    if !sound[i] {
+    if sound[i] != 1 {
         return false;
     }
     let mut e = usize::from(heads[long_chain(f, c.call(i))]);

@@ -139,7 +139,7 @@ pub fn named_counts(
     counts: &mut [u16; 4096],
 )
     requires { (heads.old ≡ replicate 1024 0) × (counts.old ≡ replicate 4096 0) }
-    ensures { Filled 0 (λ j. named_by c.entry.bytes.now (call_record c.entry.bytes.now j)) counts.new c.entry.calls }
+    ensures { Filled (λ j. named_by c.entry.bytes.now (call_record c.entry.bytes.now j)) counts.new c.entry.calls }
 {
     for i in 0..c.calls {
         note_call(c, f, heads, links, i);

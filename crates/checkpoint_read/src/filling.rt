@@ -27,7 +27,7 @@ pub fn with_calls(t: &mut Words, c: Checkpoint, f: Factors)
         bytes: c.bytes,
         calls: c.calls,
     };
-    let mut sound = [false; 4096];
+    let mut sound: [u8; 4096] = [0; 4096];
     sound_flags(t, records, &mut sound);
     let mut heads: [u16; 1024] = [0; 1024];
     let mut links: [u16; 4096] = [0; 4096];

@@ -1,4 +1,4 @@
-// The records of a checkpoint (request A13), each by itself: written, and read.
+// The records of a checkpoint (request A13), each by itself and all of them: written, and read.
 #![tactic(auto)]
 
 pub mod call;

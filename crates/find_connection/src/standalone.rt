@@ -31,6 +31,7 @@ pub fn find_standalone(t: &Words, x: Lsp) -> Option<usize>
 
 // Kept: a look of its own beside `look_under`, which asks each used slot's call too, whether it is the connection's: what
 // both share is `match_four`.
+//
 // What the customers' places say of a Path's connection: held under another Call ID than its own, which is where its own
 // is not 0; held; how many of its four stand there.
 #[derive(Clone, Copy)]

@@ -29,9 +29,8 @@ fn digit_value(b: u32) -> u32
     if b < 0x61 { b % 16 } else { (b % 16 + 9) % 16 }
 }
 
-// The number below 4,096 whose four digits are in a word: larger numbers are never made, so that the
-// first digit need not be read. The digits are written again and compared, so that nothing has to be known of bytes that
-// are no digits.
+// The number below 4,096 whose four digits are in a word: larger numbers are never made, so that the first digit need not
+// be read. The digits are written again and compared, so that nothing has to be known of bytes that are no digits.
 pub(crate) fn number_of(word: u32) -> Option<u32>
     ensures { NumberOf word result }
 {

@@ -1,4 +1,4 @@
--- Which object a stopped_at walk names (02, A3): the first faulty one.
+-- Which object a stopped walk names (02, A3): the first faulty one.
 use Rattle.std.specs.Prelude.{ℕ, ◌+◌, ◌≤◌, ◌<◌, ◌≡◌, true, List, [], ◌∷◌, Some, Ok, Err, length}
 use Rattle.objects.specs.declared.fault.Fault.{Fault}
 use Rattle.objects.specs.declared.object.Object.{Object}

@@ -41,7 +41,7 @@ objects_of read = record {
   headers = length read;
 }
 
--- what a walk gives: what it has seen, or where it stopped_at
+-- what a walk gives: what it has seen, or where it stopped
 abbrev pub Walked : Type 0
 Walked = Result Objects Stopped
 

@@ -95,12 +95,15 @@ pub fn put_admin_status(out: &mut [u8], bits: u32) -> usize
     8
 }
 
-// Bytes that are made beside the reply, as they are.
+// Bytes as they are, made beside the reply or a part of a message.
+// Kept: a loop over places. `copy_from_slice` calls memmove, a name that the static library did not need from outside.
 pub fn put_bytes(out: &mut [u8], bytes: &[u8]) -> usize
     requires { length bytes.now ≤ length out.old }
     ensures { (result ≡ length bytes.now) × (out.new ≡ at_front bytes.now out.old) }
 {
-    out[..bytes.len()].copy_from_slice(bytes);
+    for i in 0..bytes.len() {
+        out[i] = bytes[i];
+    }
     bytes.len()
 }
 

@@ -122,9 +122,10 @@ fn print_table(rt: &impl Print, t: &Words) -> io::Result<()> {
 fn read_table(rt: &impl Print, salvage: bool, roster: &[u8], copy: &[u8]) -> io::Result<()> {
     let mut t: Words = [0; WORDS];
     println!(rt; "roster {}", roster_number(read_roster(&mut t, roster)))?;
+    print!(rt; "copy")?;
     match read_checkpoint(&mut t, salvage, roster, copy) {
-        Ok(d) => println!(rt; "copy 0 {} {}", d.calls, d.connections)?,
-        Err(e) => println!(rt; "copy {} 0 0", e.number())?,
+        Ok(d) => println!(rt; " 0 {} {}", d.calls, d.connections)?,
+        Err(e) => println!(rt; " {} 0 0", e.number())?,
     }
     print_table(rt, &t)
 }

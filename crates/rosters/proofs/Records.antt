@@ -23,7 +23,7 @@ use Rattle.table.specs.Lists.{customer_at}
 use Rattle.table.specs.Share.{is_at}
 use Rattle.table.specs.Rules.{bad_share, guarantees}
 use Rattle.table.specs.Stores.{with_terms, with_roster}
-use Rattle.table.specs.Roster.{Accepted, form_in, customers_in, total_in, spare_in, shares_in, terms_in, records_in, records_answer, customer_in, customers_from, fresh_table, table_for}
+use Rattle.table.specs.Roster.{RosterAnswer, Accepted, form_in, customers_in, total_in, spare_in, shares_in, terms_in, records_in, records_answer, customer_in, customers_from, fresh_table, roster_number, table_for}
 use Rattle.rosters.specs.Taken.{with_record}
 
 -- ---- the customers
@@ -99,6 +99,17 @@ module _ (s : List ℕ) (k n : ℕ) where
   pub summed : (total sum : ℕ) → n ≤ k → total ≡ total_in s → sum ≡ guarantees (records_in s k) → records_answer s k (n - k) ≡ cond (ltb total sum) (Err Guarantees) Accepted
   unfolding records_answer
   summed total sum h o e = let z : n - k ≡ 0 = omega arith in rw (z, o, e)
+
+-- ---- the table that goes with an answer
+
+module _ (s : List ℕ) (t : Table) (a : RosterAnswer) where
+  pub table_fresh : roster_number a ≡ 0 → t ≡ fresh_table s → t ≡ table_for a s
+  unfolding table_for
+  table_fresh n e = rw (eq-eqb (roster_number a) 0 n) e
+
+  pub table_empty : (roster_number a ≡ 0 → ⊥) → t ≡ empty_table → t ≡ table_for a s
+  unfolding table_for
+  table_empty n e = rw (ne_eqb (roster_number a) 0 n) e
 
 -- ---- the table that goes with a refusal
 

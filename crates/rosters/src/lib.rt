@@ -9,7 +9,7 @@ ghost use Rattle.table.specs.Roster.{form_in, customers_in, guarantee_in, limit_
 ghost use Rattle.table.specs.Words.{table_of};
 
 use numbers::big_endian::{get16, get24, get32};
-use table::answer::RosterFault;
+use table::answer::{RosterFault, roster_number};
 use table::layout::Words;
 use table::share::bad_share;
 use table::total::total_for;
@@ -166,7 +166,9 @@ pub fn read_roster(t: &mut Words, s: &[u8]) -> Result<(), RosterFault>
 {
     clear_table(t);
     let roster = Roster::new(s)?;
-    roster.check()?;
-    roster.put(t);
-    Ok(())
+    let answer = roster.check();
+    if roster_number(answer) == 0 {
+        roster.put(t);
+    }
+    answer
 }

@@ -7,8 +7,8 @@ use table_words::fours::{FourPlace, endpoint_at, place_words};
 // Room for all connections of the table: four for each of 200 slots, and four for each of 8 customers.
 pub const ROWS: usize = 832;
 
-// Kept: arrays side by side and no array of rows, so that a loop over them compares several connections at a time
-// (docs/MEASURED.md). It is made in one place and lent: nothing of its size is copied.
+// Kept: arrays side by side and no array of rows, so that a loop over them compares several connections at a time. It is
+// made in one place and lent: nothing of its size is copied.
 #[derive(Drop)]
 pub struct Columns {
     pub endpoints: [u32; ROWS],

@@ -1,6 +1,6 @@
 // The tests of IDs and of the table's words for them, kind by kind, so that none is taken for another. Words of one kind
-// are compared by `==`. No other function reads what is in them, but for the columns of `rule_connections`, each of which
-// has words of one kind.
+// are compared by `==`. No other function compares what is in them, but for the columns of `rule_connections`, each of
+// which has words of one kind.
 ghost use Rattle.std.specs.Prelude.{◌≡◌, not, ◌&&◌, eqb, ltb};
 
 use crate::calls::CallWord;

@@ -6,15 +6,15 @@ use Rattle.checkpoint_choice.specs.LongChain.{long_chain}
 use Rattle.checkpoint_choice.proofs.LongWalk.{walk_starts, walk_goes_back, walk_goes_on, none_better, one_better, not_sound}
 use Rattle.checkpoint_choice.proofs.choosing.is_best.Goals as goal
 
-pub returns-then-not-sound-i : goal.returns-then-not-sound-i
-returns-then-not-sound-i c =
+pub returns-then-sound-i-ne1 : goal.returns-then-sound-i-ne1
+returns-then-sound-i-ne1 c =
     let a = c.args in
-    not_sound a.c.bytes.now a.sound.now a.named.now a.c.calls a.i c.if-not-sound-i.true
+    not_sound a.c.bytes.now a.sound.now a.named.now a.c.calls a.i c.if-sound-i-ne1.true
 
 pub loop-e-init : goal.loop-e-init
 loop-e-init c =
     let m = c.long_chain.ensures in
-    (c.if-not-sound-i.false, (c.args.f, c.requires.1, rw c.from-e.ensures (walk_starts c.requires.1 _ (m.0 ∙ ap (λ r. long_chain c.args.f (ids_of r.call)) c.call.ensures) m.1)))
+    (c.if-sound-i-ne1.false, (c.args.f, c.requires.1, rw c.from-e.ensures (walk_starts c.requires.1 _ (m.0 ∙ ap (λ r. long_chain c.args.f (ids_of r.call)) c.call.ensures) m.1)))
 
 pub returns-then-is_better : goal.returns-then-is_better
 returns-then-is_better c =

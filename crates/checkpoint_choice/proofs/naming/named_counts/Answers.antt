@@ -68,6 +68,6 @@ loop-i-2-preserved c =
     let e = c.count_for.ensures in
     let inside : i < n = omega (arith, c.args.c.calls_is) in
     let room : i < length counts = omega (arith, ap length e, length-set {A = ℕ}) in (
-      rw e (filled_turn 0 (λ j. named_by s (call_record s j)) counts i _ room c.loop-i-2.invariant.0 (for_named s n i counts inside c.loop-i-2.invariant.1)),
+      rw e (filled_turn (λ j. named_by s (call_record s j)) counts i _ room c.loop-i-2.invariant.0 (for_named s n i counts inside c.loop-i-2.invariant.1)),
       rw e (named_kept s n i counts inside c.loop-i-2.invariant.1 room),
     )

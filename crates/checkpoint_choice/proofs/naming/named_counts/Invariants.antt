@@ -18,4 +18,4 @@ invariant-loop-k l =
 
 abbrev pub invariant-loop-i-2 : goal.invariant-loop-i-2
 invariant-loop-i-2 l =
-    Filled 0 (λ j. named_by l.c.bytes.now (call_record l.c.bytes.now j)) l.counts l.i × Named l.c.bytes.now (calls_in l.c.bytes.now) l.counts
+    Filled (λ j. named_by l.c.bytes.now (call_record l.c.bytes.now j)) l.counts l.i × Named l.c.bytes.now (calls_in l.c.bytes.now) l.counts
